@@ -1,0 +1,16 @@
+-- `hash::lookup3::block` meets its contract. Each step is what its callee ensures.
+use Rattle.hash.specs.Lookup3.{absorb}
+use borrow.Author.Needs.{needs}
+use Rattle.hash.proofs.lookup3.block.Statement.{statement}
+use Rattle.hash.proofs.lookup3.block.Tie as tie
+
+returns : tie.Need-returns
+unfolding absorb
+returns c = cc
+
+pub block-spec : {M : Type 1} → statement M
+block-spec =
+    tie.close
+    (tie.spec
+    (λ c κs. search needs) (λ c κs. search needs) (λ c. search needs) (λ c κs. search needs) (λ c κs. search needs)
+    (λ c. search needs) (λ c κs. search needs) (λ c κs. search needs) returns)

@@ -1,0 +1,8 @@
+//! The host side of the journal library.
+//!
+//! `library` is the safe wrapper over the archive, and the one place with `unsafe`.
+//! `random` gives tests and measurements their inputs.
+//! `reading` is an independent reading of the rules in plain Rust, to hold the archive against.
+pub mod library;
+pub mod random;
+pub mod reading;
