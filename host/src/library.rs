@@ -11,6 +11,12 @@ mod raw {
 
         /// `key` points to 16 bytes.
         pub fn journal_hash_siphash24(key: *const u8, bytes: *const u8, len: usize) -> u64;
+
+        pub fn journal_framed(image: *const u8, len: usize) -> u64;
+
+        /// Of the archive `libmeasure.a`.
+        #[cfg(measure)]
+        pub fn measure_map(image: *const u8, len: usize, at: u64) -> u64;
     }
 }
 
@@ -29,4 +35,22 @@ pub fn hash_siphash24(key: &[u8; 16], bytes: &[u8]) -> u64 {
     // the length are of one slice, and both are borrowed for the whole call. The export only reads
     // these bytes and keeps no pointer.
     unsafe { raw::journal_hash_siphash24(key.as_ptr(), bytes.as_ptr(), bytes.len()) }
+}
+
+/// The lowest of refusals 1 to 7 that applies to the image, or 0.
+#[inline]
+pub fn framed(image: &[u8]) -> u64 {
+    // SAFETY: the pointer and the length are of one slice, borrowed for the whole call. The export
+    // only reads these bytes, none if the length is 0, and keeps no pointer.
+    unsafe { raw::journal_framed(image.as_ptr(), image.len()) }
+}
+
+/// For benchmarks alone: refusals 1 to 7 and then the object map. The refusal, or 8 and the map's
+/// number for the object at `at`.
+#[cfg(measure)]
+#[inline]
+pub fn measure_map(image: &[u8], at: u64) -> u64 {
+    // SAFETY: the pointer and the length are of one slice, borrowed for the whole call. The export
+    // only reads these bytes, none if the length is 0, and keeps no pointer.
+    unsafe { raw::measure_map(image.as_ptr(), image.len(), at) }
 }

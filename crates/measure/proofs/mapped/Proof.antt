@@ -1,0 +1,68 @@
+-- `measure::mapped` meets its contract. Where 1 to 7 do not apply the map can be made, and its slots are the kinds.
+use Rattle.object.specs.Header.{Image}
+use Rattle.object.specs.Walk.{walkFault}
+use Rattle.object.specs.Refusal.{headerRefusal, frameRefusal}
+use Rattle.object.specs.Map.{kindNumberAt, Mapped}
+use Rattle.object.proofs.Frames.{framed, is-header, is-6}
+use Rattle.measure.specs.Answer.{framedKind}
+use borrow.Author.Tests.{eq-eqb, ne-eqb}
+use native.Mathlib.Omega.{arith}
+use mathlib.Core.Bool.{Bool, true, false}
+use mathlib.Core.Logic.{_≢_}
+use Prim.Native.Nat.{ℕ, zero, suc, _+_}
+use mathlib.Core.Path.{_≡_, refl, sym, _∙_}
+use borrow.Author.Needs.{needs}
+use Rattle.measure.proofs.mapped.Statement.{statement}
+use Rattle.measure.proofs.mapped.Tie as tie
+
+-- where 1 to 7 do not apply
+module _ (img : Image) (z : frameRefusal img ≡ 0) where
+  header-clear : headerRefusal img ≡ 0
+  header-clear = go (headerRefusal img) refl
+    where
+      go : (n : ℕ) → headerRefusal img ≡ n → headerRefusal img ≡ 0
+      go zero e = e
+      go (suc n) e = sym (is-header img (λ q. omega (arith, e, q))) ∙ z
+
+  walk-clear : walkFault img ≡ false
+  walk-clear = go (walkFault img) refl
+    where
+      go : (b : Bool) → walkFault img ≡ b → walkFault img ≡ false
+      go true e = absurd (omega (arith, is-6 img header-clear e, z))
+      go false e = e
+
+-- the answer, by the refusal
+module _ (img : Image) (o : ℕ) where
+  is-refused : frameRefusal img ≢ 0 → framedKind img o ≡ frameRefusal img
+  unfolding framedKind
+  is-refused n = rw (framedKind, ne-eqb (frameRefusal img) 0 n)
+
+  is-kind : frameRefusal img ≡ 0 → framedKind img o ≡ 8 + kindNumberAt img o
+  unfolding framedKind
+  is-kind z = rw (framedKind, eq-eqb (frameRefusal img) 0 z)
+
+returns : tie.Need-returns
+returns c =
+    let a = c .before .before .before .before .args in
+    c .before .frame-refusal .ensures ∙ sym (is-refused (a .image .now) (a .at) (λ e. c .if1 .taken (cc)))
+
+chart-requires : tie.Need-chart-requires
+chart-requires c κs =
+    let img = c .before .before .before .before .before .args .image .now in
+    let z = sym (c .before .before .frame-refusal .ensures) ∙ c .before .if1 .left in
+    let f = framed img (header-clear img z) in (f, walk-clear img z, omega (arith, f .short))
+
+returns-2 : tie.Need-returns-2
+unfolding Mapped
+returns-2 c =
+    let a = c .before .before .before .before .before .before .before .before .before .before .args in
+    let checked = c .before .before .before .before .before .before in
+    let z = sym (checked .before .frame-refusal .ensures) ∙ checked .if1 .left in
+    rw (is-kind (a .image .now) (a .at) z, c .slot-at .ensures, c .before .before .before .before .chart .ensures .0 (a .at))
+
+pub mapped-spec : {M : Type 1} → statement M
+mapped-spec =
+    tie.close
+    (tie.spec
+    (λ c κs. search needs) returns chart-requires (λ c κs. search needs) (λ c. search needs) (λ c. search needs)
+    (λ c. search needs) returns-2)

@@ -1,0 +1,56 @@
+//! Times the archive against plain Rust: `cargo run --offline --release --bin bench`.
+//!
+//! A ratio of 1.0 or more means that the archive is at least as fast as plain Rust.
+mod frame;
+mod plain;
+mod timing;
+
+use journal_host::library;
+use journal_host::random::Random;
+use journal_host::reading::lookup3::hashlittle2;
+use journal_host::reading::siphash::siphash24;
+use std::hint::black_box;
+use timing::{heading, measure, row};
+
+fn main() {
+    hashes();
+    frame::frame();
+}
+
+fn hashes() {
+    const SIZES: [(&str, usize); 4] = [
+        ("16 bytes", 16),
+        ("64 bytes", 64),
+        ("4 KiB", 4 << 10),
+        ("1 MiB", 1 << 20),
+    ];
+    let mut random = Random::new(1);
+    let key = random.array();
+    let buffer = random.bytes(1 << 20);
+
+    // The archive's functions can't be inlined, nor shaped after their one caller. A pointer that
+    // the compiler can't see through keeps it from doing so to the plain ones: each side pays for
+    // one call.
+    let plain_lookup3: fn(&[u8]) -> u64 = black_box(hashlittle2);
+    let plain_siphash24: fn(&[u8; 16], &[u8]) -> u64 = black_box(siphash24);
+
+    heading("lookup3");
+    for (label, size) in SIZES {
+        let bytes = &buffer[..size];
+        let times = measure(
+            || library::hash_lookup3(black_box(bytes)),
+            || plain_lookup3(black_box(bytes)),
+        );
+        row(label, size, &times);
+    }
+
+    heading("siphash24");
+    for (label, size) in SIZES {
+        let bytes = &buffer[..size];
+        let times = measure(
+            || library::hash_siphash24(black_box(&key), black_box(bytes)),
+            || plain_siphash24(black_box(&key), black_box(bytes)),
+        );
+        row(label, size, &times);
+    }
+}

@@ -1,0 +1,95 @@
+//! Where the fields stand: the header's table and the list of objects.
+
+/// "The file opens with the eight bytes `LPKSHHRH`."
+pub const SIGNATURE: [u8; 8] = *b"LPKSHHRH";
+/// "Objects follow from 256."
+pub const FIRST_OBJECT: u64 = 256;
+/// "more than 8,388,608 bytes"
+pub const MOST_BYTES: u64 = 8_388_608;
+/// "bit 2", the keyed hash.
+pub const KEYED_HASH: u32 = 1 << 2;
+
+/// Where the header's fields stand.
+pub mod header {
+    pub const COMPATIBLE_FLAGS: u64 = 8;
+    pub const INCOMPATIBLE_FLAGS: u64 = 12;
+    pub const STATE: u64 = 16;
+    pub const FILE_ID: u64 = 24;
+    pub const MACHINE_ID: u64 = 40;
+    pub const BOOT_ID: u64 = 56;
+    pub const SEQNUM_ID: u64 = 72;
+    pub const HEADER_SIZE: u64 = 88;
+    pub const ARENA_SIZE: u64 = 96;
+    pub const DATA_HASH_TABLE_OFFSET: u64 = 104;
+    pub const DATA_HASH_TABLE_SIZE: u64 = 112;
+    pub const FIELD_HASH_TABLE_OFFSET: u64 = 120;
+    pub const FIELD_HASH_TABLE_SIZE: u64 = 128;
+    pub const TAIL_OBJECT_OFFSET: u64 = 136;
+    pub const N_OBJECTS: u64 = 144;
+    pub const N_ENTRIES: u64 = 152;
+    pub const TAIL_ENTRY_SEQNUM: u64 = 160;
+    pub const HEAD_ENTRY_SEQNUM: u64 = 168;
+    pub const ENTRY_ARRAY_OFFSET: u64 = 176;
+    pub const HEAD_ENTRY_REALTIME: u64 = 184;
+    pub const TAIL_ENTRY_REALTIME: u64 = 192;
+    pub const TAIL_ENTRY_MONOTONIC: u64 = 200;
+    pub const N_DATA: u64 = 208;
+    pub const N_FIELDS: u64 = 216;
+    pub const N_TAGS: u64 = 224;
+    pub const N_ENTRY_ARRAYS: u64 = 232;
+    pub const DATA_HASH_CHAIN_DEPTH: u64 = 240;
+    pub const FIELD_HASH_CHAIN_DEPTH: u64 = 248;
+}
+
+/// The types of objects.
+pub mod kind {
+    pub const DATA: u8 = 1;
+    pub const FIELD: u8 = 2;
+    pub const ENTRY: u8 = 3;
+    pub const DATA_HASH_TABLE: u8 = 4;
+    pub const FIELD_HASH_TABLE: u8 = 5;
+    pub const ENTRY_ARRAY: u8 = 6;
+    pub const TAG: u8 = 7;
+}
+
+/// "1 DATA: 16 hash, 24 next_hash, 32 next_field, 40 entry_offset, 48 entry_array,
+/// 56 n_entries, 64 payload"
+pub mod data {
+    pub const HASH: u64 = 16;
+    pub const NEXT_HASH_OFFSET: u64 = 24;
+    pub const NEXT_FIELD_OFFSET: u64 = 32;
+    pub const ENTRY_OFFSET: u64 = 40;
+    pub const ENTRY_ARRAY_OFFSET: u64 = 48;
+    pub const N_ENTRIES: u64 = 56;
+    pub const PAYLOAD: u64 = 64;
+}
+
+/// "2 FIELD: 16 hash, 24 next_hash, 32 head_data, 40 name."
+pub mod field {
+    pub const HASH: u64 = 16;
+    pub const NEXT_HASH_OFFSET: u64 = 24;
+    pub const HEAD_DATA_OFFSET: u64 = 32;
+    pub const NAME: u64 = 40;
+}
+
+/// "3 ENTRY: 16 seqnum, 24 realtime, 32 monotonic, 40 boot id, 56 xor_hash, 64 items of 16
+/// (DATA offset, hash)."
+pub mod entry {
+    pub const SEQNUM: u64 = 16;
+    pub const REALTIME: u64 = 24;
+    pub const MONOTONIC: u64 = 32;
+    pub const BOOT_ID: u64 = 40;
+    pub const XOR_HASH: u64 = 56;
+    pub const ITEMS: u64 = 64;
+}
+
+/// "4, 5 data and field hash table: 16 cells of 16 (head, tail)."
+pub mod table {
+    pub const CELLS: u64 = 16;
+}
+
+/// "6 ENTRY_ARRAY: 16 next, 24 items of 8."
+pub mod array {
+    pub const NEXT_ENTRY_ARRAY_OFFSET: u64 = 16;
+    pub const ITEMS: u64 = 24;
+}

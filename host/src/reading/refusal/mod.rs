@@ -1,0 +1,59 @@
+//! Refusals 1 to 11: "The lowest number that applies is the answer, each tested over the
+//! whole image before the next. Accepted is 0."
+pub mod clause;
+mod committed;
+mod hashes;
+mod header;
+mod links;
+mod lists;
+mod tables;
+mod walk;
+
+use super::image::Image;
+pub use clause::{Clause, APPEND_CLAUSES, CLAUSES};
+
+/// 0, or the lowest number of the table that applies.
+pub fn refusal(bytes: &[u8]) -> u64 {
+    match clauses(bytes).first() {
+        Some(clause) => clause.number,
+        None => 0,
+    }
+}
+
+/// All clauses that apply at the lowest number that applies; none if the image is accepted.
+pub fn clauses(bytes: &[u8]) -> Vec<Clause> {
+    let mut found = Vec::new();
+    for test in [
+        header::one,
+        header::two,
+        header::three,
+        header::four,
+        header::five,
+        walk::six,
+    ] {
+        test(bytes, &mut found);
+        if !found.is_empty() {
+            return tidy(found);
+        }
+    }
+    let image = Image::walked(bytes);
+    for test in [
+        tables::seven,
+        links::eight,
+        committed::nine,
+        lists::ten,
+        hashes::eleven,
+    ] {
+        test(&image, &mut found);
+        if !found.is_empty() {
+            return tidy(found);
+        }
+    }
+    found
+}
+
+fn tidy(mut found: Vec<Clause>) -> Vec<Clause> {
+    found.sort();
+    found.dedup();
+    found
+}
