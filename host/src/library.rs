@@ -14,6 +14,8 @@ mod raw {
 
         pub fn journal_framed(image: *const u8, len: usize) -> u64;
 
+        pub fn journal_open(image: *const u8, len: usize) -> u64;
+
         /// Of the archive `libmeasure.a`.
         #[cfg(measure)]
         pub fn measure_map(image: *const u8, len: usize, at: u64) -> u64;
@@ -43,6 +45,14 @@ pub fn framed(image: &[u8]) -> u64 {
     // SAFETY: the pointer and the length are of one slice, borrowed for the whole call. The export
     // only reads these bytes, none if the length is 0, and keeps no pointer.
     unsafe { raw::journal_framed(image.as_ptr(), image.len()) }
+}
+
+/// The lowest of refusals 1 to 11 that applies to the image, or 0: the image opens.
+#[inline]
+pub fn open(image: &[u8]) -> u64 {
+    // SAFETY: the pointer and the length are of one slice, borrowed for the whole call. The export
+    // only reads these bytes, none if the length is 0, and keeps no pointer.
+    unsafe { raw::journal_open(image.as_ptr(), image.len()) }
 }
 
 /// For benchmarks alone: refusals 1 to 7 and then the object map. The refusal, or 8 and the map's

@@ -1,4 +1,5 @@
 //! Good images and damaged ones, by a writer of its own, and appends to them.
+pub mod any;
 pub mod appends;
 pub mod damage;
 pub mod dice;

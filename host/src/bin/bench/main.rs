@@ -1,8 +1,13 @@
 //! Times the archive against plain Rust: `cargo run --offline --release --bin bench`.
+//! Sections are `hashes`, `frame`, `open` and `hostile`; with their names only those are run.
 //!
 //! A ratio of 1.0 or more means that the archive is at least as fast as plain Rust.
+mod builder;
 mod frame;
+mod hostile;
+mod open;
 mod plain;
+mod plain_open;
 mod timing;
 
 use journal_host::library;
@@ -13,8 +18,18 @@ use std::hint::black_box;
 use timing::{heading, measure, row};
 
 fn main() {
-    hashes();
-    frame::frame();
+    let asked: Vec<String> = std::env::args().skip(1).collect();
+    let sections: [(&str, fn()); 4] = [
+        ("hashes", hashes),
+        ("frame", frame::frame),
+        ("open", open::open),
+        ("hostile", hostile::hostile),
+    ];
+    for (name, section) in sections {
+        if asked.is_empty() || asked.iter().any(|other| other == name) {
+            section();
+        }
+    }
 }
 
 fn hashes() {

@@ -1,13 +1,13 @@
 //! Refusals 1 to 7 and the object map in plain Rust, written for speed.
 
-const HEADER_LENGTH: usize = 256;
-const LONGEST_IMAGE: usize = 8_388_608;
+pub const HEADER_LENGTH: usize = 256;
+pub const LONGEST_IMAGE: usize = 8_388_608;
 
-fn u32_at(bytes: &[u8], at: usize) -> u32 {
+pub fn u32_at(bytes: &[u8], at: usize) -> u32 {
     u32::from_le_bytes(bytes[at..at + 4].try_into().expect("four bytes"))
 }
 
-fn u64_at(bytes: &[u8], at: usize) -> u64 {
+pub fn u64_at(bytes: &[u8], at: usize) -> u64 {
     u64::from_le_bytes(bytes[at..at + 8].try_into().expect("eight bytes"))
 }
 
@@ -159,7 +159,7 @@ fn object_fault(arena: &[u8], at: usize) -> bool {
 }
 
 #[inline]
-fn next(arena: &[u8], at: usize) -> usize {
+pub fn next(arena: &[u8], at: usize) -> usize {
     at + (u64_at(arena, at + 8) as usize + 7) / 8 * 8
 }
 

@@ -35,6 +35,46 @@ pub fn measure<T>(mut archive: impl FnMut() -> T, mut plain: impl FnMut() -> T) 
     least
 }
 
+/// The same for calls that take longer than a machine with other work leaves to one process at a
+/// stretch: one call to a round, by the time that the processor spent on it.
+pub fn measure_long<T>(
+    rounds: usize,
+    mut archive: impl FnMut() -> T,
+    mut plain: impl FnMut() -> T,
+) -> Times {
+    let mut least = Times {
+        archive: f64::INFINITY,
+        plain: f64::INFINITY,
+    };
+    for _ in 0..rounds {
+        least.archive = least.archive.min(time_long(&mut archive, 1));
+        least.plain = least.plain.min(time_long(&mut plain, 1));
+    }
+    least
+}
+
+/// Nanoseconds of the processor per call.
+pub fn time_long<T>(call: &mut impl FnMut() -> T, calls: u32) -> f64 {
+    let wall = Instant::now();
+    let start = spent();
+    for _ in 0..calls {
+        black_box(call());
+    }
+    let took = match (start, spent()) {
+        (Some(start), Some(end)) => end - start,
+        _ => wall.elapsed().as_nanos() as u64,
+    };
+    took as f64 / f64::from(calls)
+}
+
+/// The nanoseconds that the processor spent on this thread, where the system tells. It counts them
+/// up at the latest when the thread yields.
+fn spent() -> Option<u64> {
+    std::thread::yield_now();
+    let text = std::fs::read_to_string("/proc/thread-self/schedstat").ok()?;
+    text.split(' ').next()?.parse().ok()
+}
+
 /// Doubles the number of calls until they fill a round; this also warms the caches.
 fn calls_per_round<T>(call: &mut impl FnMut() -> T) -> u32 {
     let mut calls = 1;

@@ -16,7 +16,9 @@ pub fn damage(clause: Clause, random: &mut Random, made: &mut Rendered) -> bool 
     let here = made.offsets[pick(random, &parts)];
     let count = here + data::N_ENTRIES;
     let n_entries = made.word(count);
-    let (places, committed, last) = places(made, here);
+    let Some((places, committed, last)) = places(made, here) else {
+        return false;
+    };
     let room = places.len() as u64;
     let listed: Vec<u64> = places
         .iter()
@@ -95,10 +97,11 @@ pub fn damage(clause: Clause, random: &mut Random, made: &mut Rendered) -> bool 
 }
 
 /// The places of a DATA's list (entry_offset and the items of its chain), the committed
-/// entries and the last of them.
-fn places(made: &Rendered, here: u64) -> (Vec<u64>, Vec<u64>, u64) {
+/// entries and the last of them. None where the chain is too short already.
+fn places(made: &Rendered, here: u64) -> Option<(Vec<u64>, Vec<u64>, u64)> {
     let image = Image::walked(&made.image);
-    assert!(counted(&image, here).is_some() && image.lands(here, kind::DATA));
+    assert!(image.lands(here, kind::DATA));
+    counted(&image, here)?;
     let committed = committed(&image);
     let last = last_committed(&committed);
     let mut places = vec![here + data::ENTRY_OFFSET];
@@ -108,5 +111,5 @@ fn places(made: &Rendered, here: u64) -> (Vec<u64>, Vec<u64>, u64) {
             .iter()
             .map(|item| item.0),
     );
-    (places, committed, last)
+    Some((places, committed, last))
 }

@@ -1,5 +1,6 @@
 //! Damages: one for each clause of the table of refusals, and others without an aim.
 mod committed;
+mod company;
 mod hashes;
 mod links;
 mod lists;
@@ -30,6 +31,9 @@ pub fn targeted(clause: Clause, random: &mut Random) -> Vec<u8> {
 /// The same with damages before it that are meant for higher numbers: the lowest is the answer.
 /// A damage needs an image to which no lower number applies, so the highest comes first.
 pub fn in_company(clause: Clause, random: &mut Random) -> Vec<u8> {
+    if clause.number >= 8 {
+        return company::in_company(clause, random);
+    }
     // Two of 6 can't be had in this way; two of 5 or of 7 can.
     let lowest = clause.number + u64::from(!matches!(clause.number, 5 | 7));
     loop {

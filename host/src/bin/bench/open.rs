@@ -1,0 +1,144 @@
+//! Opening files of the greatest length, full of entries as a seed store's controllers log them:
+//! the archive against plain Rust with the same passes, and journalctl's check of the same file.
+use crate::builder::Builder;
+use crate::plain_open;
+use crate::timing::{heading, measure_long, row};
+use journal_host::generator::any::any;
+use journal_host::library;
+use journal_host::random::Random;
+use journal_host::reading::layout::MOST_BYTES;
+use std::hint::black_box;
+use std::path::Path;
+use std::process::{Command, Stdio};
+use std::time::{Duration, Instant};
+
+struct Full {
+    label: String,
+    image: Vec<u8>,
+}
+
+pub fn open() {
+    same_answers();
+    let full = [
+        full(false, 4_095),
+        full(true, 4_095),
+        full(false, 65_536),
+        full(true, 65_536),
+    ];
+    let plain: fn(&[u8]) -> u64 = black_box(plain_open::open);
+    heading("open");
+    for Full { label, image } in &full {
+        assert_eq!(library::open(image), 0);
+        assert_eq!(plain(image), 0);
+        let times = measure_long(
+            60,
+            || library::open(black_box(image)),
+            || plain(black_box(image)),
+        );
+        row(label, image.len(), &times);
+    }
+    journalctl(&full);
+}
+
+/// Only what answers the same can be compared.
+fn same_answers() {
+    for seed in 0..10_000 {
+        let image = any(&mut Random::new(seed));
+        assert_eq!(plain_open::open(&image), library::open(&image));
+    }
+}
+
+/// The payloads of an entry: 5 to 8 fields, most of them with few values, one or two with a value
+/// of their own.
+pub fn payloads(random: &mut Random, n: u64) -> Vec<Vec<u8>> {
+    let mut payloads = vec![
+        format!("LOT={}", random.below(2_000)),
+        format!(
+            "STATE={}",
+            ["sown", "wet", "sprouted", "dead"][random.below(4)]
+        ),
+        format!("CONTROLLER=chamber-{}", random.below(12)),
+        format!("PRIORITY={}", random.below(8)),
+        format!("MESSAGE=germination test {n} counted, {} of 50", n % 51),
+    ];
+    let more = [
+        format!("SAMPLE={:012x}", n * 1_000_003),
+        format!("TEMPERATURE={}.{}", random.below(20) + 4, random.below(10)),
+        format!("OPERATOR={}", random.below(9)),
+    ];
+    payloads.extend(more.into_iter().filter(|_| random.below(2) == 0));
+    payloads.into_iter().map(String::into_bytes).collect()
+}
+
+fn full(keyed: bool, data_cells: u64) -> Full {
+    let random = &mut Random::new(3);
+    let mut builder = Builder::new(MOST_BYTES as usize, keyed, data_cells, 333);
+    let mut n = 0;
+    while builder.append(
+        &payloads(random, n),
+        [n + 1, 1_700_000_000_000_000 + 250_000 * n, 250_000 * n + 50],
+    ) {
+        n += 1;
+    }
+    let hash = if keyed { "siphash24" } else { "lookup3" };
+    let label = format!("{n}, {data_cells}, {hash}");
+    Full {
+        label,
+        image: builder.image,
+    }
+}
+
+/// `journalctl --verify` of the same files, less what starting it takes; the best of some runs.
+fn journalctl(full: &[Full]) {
+    let Some(start) = time(&["--version"]) else {
+        println!("journalctl is not installed: its check is not measured");
+        return;
+    };
+    println!("journalctl --verify, less {start:.1?} for --version");
+    for (i, Full { label, image }) in full.iter().enumerate() {
+        let path = std::env::temp_dir().join(format!("bench-{}-{i}.journal", std::process::id()));
+        std::fs::write(&path, image).expect("a file for journalctl");
+        let file = format!("--file={}", path.display());
+        match time(&[&file, "--verify"]) {
+            Some(took) => println!("{label:<26} {:>10.1?}", took.saturating_sub(start)),
+            None => println!("{label:<26} refused: {}", said(&file, &path)),
+        }
+        std::fs::remove_file(&path).expect("the file is there");
+    }
+}
+
+fn run(arguments: &[&str]) -> Option<bool> {
+    let status = Command::new("journalctl")
+        .args(arguments)
+        .stdin(Stdio::null())
+        .stdout(Stdio::null())
+        .stderr(Stdio::null())
+        .status();
+    status.ok().map(|status| status.success())
+}
+
+fn time(arguments: &[&str]) -> Option<Duration> {
+    let mut least = Duration::MAX;
+    for _ in 0..15 {
+        let start = Instant::now();
+        if !run(arguments)? {
+            return None;
+        }
+        least = least.min(start.elapsed());
+    }
+    Some(least)
+}
+
+/// What journalctl says of a file that it does not pass.
+fn said(file: &str, path: &Path) -> String {
+    match Command::new("journalctl").args([file, "--verify"]).output() {
+        Ok(output) => String::from_utf8_lossy(&output.stderr)
+            .replace(&path.display().to_string(), "the file")
+            .lines()
+            .rev()
+            .find(|line| !line.is_empty())
+            .unwrap_or("nothing")
+            .to_string(),
+        Err(error) => error.to_string(),
+    }
+}
