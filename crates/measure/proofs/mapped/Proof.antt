@@ -1,35 +1,17 @@
 -- `measure::mapped` meets its contract. Where 1 to 7 do not apply the map can be made, and its slots are the kinds.
 use Rattle.object.specs.Header.{Image}
-use Rattle.object.specs.Walk.{walkFault}
-use Rattle.object.specs.Refusal.{headerRefusal, frameRefusal}
+use Rattle.object.specs.Refusal.{frameRefusal}
 use Rattle.object.specs.Map.{kindNumberAt, Mapped}
-use Rattle.object.proofs.Frames.{framed, is-header, is-6}
+use Rattle.object.proofs.Frames.{walked}
 use Rattle.measure.specs.Answer.{framedKind}
 use borrow.Author.Tests.{eq-eqb, ne-eqb}
 use native.Mathlib.Omega.{arith}
-use mathlib.Core.Bool.{Bool, true, false}
 use mathlib.Core.Logic.{_≢_}
-use Prim.Native.Nat.{ℕ, zero, suc, _+_}
-use mathlib.Core.Path.{_≡_, refl, sym, _∙_}
+use Prim.Native.Nat.{ℕ, _+_}
+use mathlib.Core.Path.{_≡_, sym, _∙_}
 use borrow.Author.Needs.{needs}
 use Rattle.measure.proofs.mapped.Statement.{statement}
 use Rattle.measure.proofs.mapped.Tie as tie
-
--- where 1 to 7 do not apply
-module _ (img : Image) (z : frameRefusal img ≡ 0) where
-  header-clear : headerRefusal img ≡ 0
-  header-clear = go (headerRefusal img) refl
-    where
-      go : (n : ℕ) → headerRefusal img ≡ n → headerRefusal img ≡ 0
-      go zero e = e
-      go (suc n) e = sym (is-header img (λ q. omega (arith, e, q))) ∙ z
-
-  walk-clear : walkFault img ≡ false
-  walk-clear = go (walkFault img) refl
-    where
-      go : (b : Bool) → walkFault img ≡ b → walkFault img ≡ false
-      go true e = absurd (omega (arith, is-6 img header-clear e, z))
-      go false e = e
 
 -- the answer, by the refusal
 module _ (img : Image) (o : ℕ) where
@@ -50,7 +32,7 @@ chart-requires : tie.Need-chart-requires
 chart-requires c κs =
     let img = c .before .before .before .before .before .args .image .now in
     let z = sym (c .before .before .frame-refusal .ensures) ∙ c .before .if1 .left in
-    let f = framed img (header-clear img z) in (f, walk-clear img z, omega (arith, f .short))
+    let w = walked img z in (w .framed, w .walked, omega (arith, w .framed .short))
 
 returns-2 : tie.Need-returns-2
 unfolding Mapped
