@@ -1,4 +1,5 @@
-//! The archive's exports as safe functions. This is the one file with `unsafe`.
+//! The archive's exports as safe functions. This is the one file with `unsafe`, but for what is only
+//! measured (`measured`).
 //!
 //! How the archive takes its parameters: a `&[u8]` is a pointer and then a length, a `&[u8; N]` is
 //! a pointer alone. Each export is declared in `raw` and has one wrapper of the same name without
@@ -44,9 +45,23 @@ mod raw {
 
         pub fn journal_stamps(image: *const u8, len: usize, entry: u64) -> Stamps;
 
-        /// Of the archive `libmeasure.a`.
-        #[cfg(measure)]
-        pub fn measure_map(image: *const u8, len: usize, at: u64) -> u64;
+        /// `ids` points to 64 bytes.
+        pub fn journal_new(
+            image: *mut u8,
+            len: usize,
+            ids: *const u8,
+            data_cells: u64,
+            field_cells: u64,
+            keyed: u64,
+        ) -> u64;
+
+        pub fn journal_carry_out(
+            image: *mut u8,
+            len: usize,
+            stores: *const u8,
+            stores_len: usize,
+            k: u64,
+        ) -> u64;
     }
 }
 
@@ -179,12 +194,38 @@ pub fn stamps(image: &[u8], entry: u64) -> Stamps {
     unsafe { raw::journal_stamps(image.as_ptr(), image.len(), entry) }
 }
 
-/// For benchmarks alone: refusals 1 to 7 and then the object map. The refusal, or 8 and the map's
-/// number for the object at `at`.
-#[cfg(measure)]
+/// Makes a new file of all of `image`, with file, machine, boot and seqnum id one behind the other in
+/// `ids`: 0; or 20, and no byte changes.
 #[inline]
-pub fn measure_map(image: &[u8], at: u64) -> u64 {
-    // SAFETY: the pointer and the length are of one slice, borrowed for the whole call. The export
-    // only reads these bytes, none if the length is 0, and keeps no pointer.
-    unsafe { raw::measure_map(image.as_ptr(), image.len(), at) }
+pub fn new(image: &mut [u8], ids: &[u8; 64], data_cells: u64, field_cells: u64, keyed: u64) -> u64 {
+    // SAFETY: the first pointer and the length are of one slice, borrowed for the whole call and by
+    // nobody else, so that the export may write it. The second pointer is to the 64 bytes that it
+    // takes as the ids, borrowed too and only read. It touches no other byte and keeps no pointer.
+    unsafe {
+        raw::journal_new(
+            image.as_mut_ptr(),
+            image.len(),
+            ids.as_ptr(),
+            data_cells,
+            field_cells,
+            keyed,
+        )
+    }
+}
+
+/// Carries out the first `k` stores of the list on the image: 0; or 21, and no byte changes.
+#[inline]
+pub fn carry_out(image: &mut [u8], stores: &[u8], k: u64) -> u64 {
+    // SAFETY: each pointer and the length behind it are of one slice. The image is borrowed for the
+    // whole call and by nobody else, so that the export may write it; the stores are borrowed too and
+    // only read. It touches no other byte and keeps no pointer.
+    unsafe {
+        raw::journal_carry_out(
+            image.as_mut_ptr(),
+            image.len(),
+            stores.as_ptr(),
+            stores.len(),
+            k,
+        )
+    }
 }

@@ -16,3 +16,4 @@ mod render_header;
 mod render_links;
 pub mod requests;
 mod strays;
+pub mod worked;

@@ -1,5 +1,6 @@
 //! Real files.
-use super::made::{appended, request};
+use journal_host::corpus;
+use journal_host::generator::worked::{appended, request};
 use journal_host::reading::image::{id, le64};
 use journal_host::reading::layout::header;
 use journal_host::reading::listing::listing;
@@ -7,11 +8,6 @@ use journal_host::reading::lookup::open;
 use journal_host::reading::plan::append;
 use journal_host::reading::refusal::refusal;
 use journal_host::reading::request::{packed, Request};
-
-fn real(name: &str) -> Vec<u8> {
-    let path = format!("{}/data/corpus/{name}", env!("CARGO_MANIFEST_DIR"));
-    std::fs::read(&path).unwrap_or_else(|error| panic!("{path}: {error}"))
-}
 
 #[test]
 fn real_files() {
@@ -24,10 +20,10 @@ fn real_files() {
         ("trixie-k1-c0-system", 5, 0, 5),
         ("trixie-k1-c1-system", 4, 0, 4),
     ] {
-        let image = real(&format!("{name}.journal"));
+        let image = corpus::image(name);
         assert_eq!(refusal(&image), opens, "{name}");
         let text = if opens == 0 {
-            String::from_utf8(real(&format!("{name}.journal.listing"))).expect("text")
+            corpus::listing(name)
         } else {
             format!("refused {opens}\n")
         };

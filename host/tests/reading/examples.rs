@@ -1,5 +1,7 @@
 //! The worked examples of the rules.
-use super::made::{appended, first, made, objects, one_cell_each, request, second, LAST};
+use journal_host::generator::worked::{
+    appended, first, made, one_cell_each, request, second, LAST, LISTING,
+};
 use journal_host::reading::image::{le64, Image};
 use journal_host::reading::layout::{header, kind};
 use journal_host::reading::listing::listing;
@@ -9,6 +11,14 @@ use journal_host::reading::new_file::{new_file, NewFile};
 use journal_host::reading::plan::{append, plan, Answer};
 use journal_host::reading::refusal::refusal;
 use journal_host::reading::request::packed;
+
+fn objects(image: &[u8]) -> Vec<(u64, u8)> {
+    Image::walked(image)
+        .objects
+        .iter()
+        .map(|object| (object.offset, object.kind))
+        .collect()
+}
 
 #[test]
 fn nothing_and_no_journal() {
@@ -123,13 +133,7 @@ fn two_appends() {
                 .map(|object| object.next()),
             Some(872)
         );
-        assert_eq!(
-            listing(&image),
-            "seqnum realtime monotonic fields\n\
-             9223372036854775807 1700000000000000 50 2\n\
-             9223372036854775808 1700000000000001 60 1\n\
-             entries 2\n"
-        );
+        assert_eq!(listing(&image), LISTING);
         let journal = open(&image)
             .map_err(|number| number.to_string())
             .expect("opens");

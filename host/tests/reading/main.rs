@@ -4,6 +4,5 @@ mod corpus;
 mod cuts;
 mod examples;
 mod freedoms;
-mod made;
 mod refusals;
 mod stores;

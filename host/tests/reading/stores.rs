@@ -1,5 +1,5 @@
 //! The stores of an append word by word, the sizes of arrays, and carrying out.
-use super::made::{appended, first, made, request, second, LAST};
+use journal_host::generator::worked::{appended, first, made, request, second, LAST};
 use journal_host::reading::carry::carry_out;
 use journal_host::reading::image::Image;
 use journal_host::reading::layout::kind;

@@ -5,6 +5,8 @@ use crate::timing::{heading, measure, row};
 use journal_host::generator::damage::damaged;
 use journal_host::generator::frame::{frame as framed_image, set};
 use journal_host::library;
+#[cfg(measure)]
+use journal_host::measured;
 use journal_host::random::Random;
 use journal_host::reading::layout::{header, FIRST_OBJECT, MOST_BYTES};
 use std::hint::black_box;
@@ -57,7 +59,7 @@ fn map(full: &[Full]) {
         heading(title);
         for Full { label, image } in full {
             let times = measure(
-                || library::measure_map(black_box(image), black_box(FIRST_OBJECT)),
+                || measured::map(black_box(image), black_box(FIRST_OBJECT)),
                 || plain(black_box(image), black_box(FIRST_OBJECT)),
             );
             row(label, image.len(), &times);
@@ -109,7 +111,7 @@ fn same_answers() {
         #[cfg(measure)]
         if seed < 1_000 {
             for at in (248..500).step_by(4) {
-                let answer = library::measure_map(&image, at);
+                let answer = measured::map(&image, at);
                 assert_eq!(plain::map(&image, at), answer);
                 assert_eq!(plain::map_in_one_pass(&image, at), answer);
             }

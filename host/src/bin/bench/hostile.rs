@@ -4,10 +4,17 @@ use crate::timing::time_long;
 use journal_host::generator::frame::set;
 use journal_host::library;
 use journal_host::reading::layout::{header, kind};
+use journal_host::reading::lookup3::hashlittle2;
 
 pub fn hostile() {
-    let kinds: [(&str, fn(u64) -> Vec<u8>); 7] = [
-        ("DATA in one cell", one_cell),
+    let kinds: [(&str, fn(u64) -> Vec<u8>); 9] = [
+        ("DATA in one cell", |it| {
+            one_cell(it, kind::DATA, 64, header::DATA_HASH_TABLE_OFFSET)
+        }),
+        ("FIELDs in one cell", |it| {
+            one_cell(it, kind::FIELD, 40, header::FIELD_HASH_TABLE_OFFSET)
+        }),
+        ("DATA of one hash", one_hash),
         ("one array chain for all DATA", one_chain),
         ("one FIELD list for all FIELDs", |it| one_list(it, b"A")),
         ("the same, names of 51 bytes", |it| {
@@ -54,16 +61,54 @@ fn small(n: u64) -> Vec<u8> {
     payload
 }
 
-/// DATA of 72 bytes, all on the chain of the one cell: each is held against all behind it.
-fn one_cell(length: u64) -> Vec<u8> {
+/// Objects with 8 bytes of payload or name, all on the chain of the one cell: where the filter can't
+/// tell that a hash is new, the object is held against all before it.
+fn one_cell(length: u64, kind: u8, body: u64, table: u64) -> Vec<u8> {
     let mut it = builder(length, false);
     let mut n = 0;
-    while it.room() >= 72 {
-        let at = it.hashed(kind::DATA, 64, &small(n));
-        it.chain(header::DATA_HASH_TABLE_OFFSET, at);
+    while it.room() >= body + 8 {
+        let at = it.hashed(kind, body, &small(n));
+        it.chain(table, at);
         n += 1;
     }
     it.image
+}
+
+/// The same with DATA of different payloads and one hash, so that the filter never helps.
+fn one_hash(length: u64) -> Vec<u8> {
+    let mut it = builder(length, false);
+    let mut n = 0;
+    while it.room() >= 80 {
+        let payload = hashed_to_0(n);
+        if payload.iter().position(|&byte| byte == b'=') > Some(0) {
+            let at = it.hashed(kind::DATA, 64, &payload);
+            it.chain(header::DATA_HASH_TABLE_OFFSET, at);
+        }
+        n += 1;
+    }
+    it.image
+}
+
+/// A payload of 12 bytes with the hash 0, another for each number: the last steps of lookup3
+/// backwards.
+fn hashed_to_0(n: u32) -> Vec<u8> {
+    fn back(x: &mut u32, y: u32, turn: u32) {
+        *x = x.wrapping_add(y.rotate_left(turn)) ^ y;
+    }
+    let (mut a, mut b, mut c) = (n, 0, 0);
+    back(&mut c, b, 24);
+    back(&mut b, a, 14);
+    back(&mut a, c, 4);
+    back(&mut c, b, 16);
+    back(&mut b, a, 25);
+    back(&mut a, c, 11);
+    back(&mut c, b, 14);
+    let start = 0xdead_beef_u32.wrapping_add(12);
+    let payload = [a, b, c]
+        .map(|word| word.wrapping_sub(start).to_le_bytes())
+        .concat();
+    assert_eq!(hashlittle2(&payload), 0);
+    payload
 }
 
 /// Half of the file is an array, the other half DATA that count all of its items. No entry is

@@ -1,13 +1,17 @@
 //! Times the archive against plain Rust: `cargo run --offline --release --bin bench`.
-//! Sections are `hashes`, `frame`, `open` and `hostile`; with their names only those are run.
+//! Sections are `hashes`, `frame`, `open`, `lookups`, `listing` and `hostile`; with their names only those are run.
 //!
 //! A ratio of 1.0 or more means that the archive is at least as fast as plain Rust.
 mod builder;
 mod frame;
 mod hostile;
+mod listing;
+mod lookups;
 mod open;
 mod plain;
+mod plain_lookup;
 mod plain_open;
+mod process;
 mod timing;
 
 use journal_host::library;
@@ -19,10 +23,12 @@ use timing::{heading, measure, row};
 
 fn main() {
     let asked: Vec<String> = std::env::args().skip(1).collect();
-    let sections: [(&str, fn()); 4] = [
+    let sections: [(&str, fn()); 6] = [
         ("hashes", hashes),
         ("frame", frame::frame),
         ("open", open::open),
+        ("lookups", lookups::lookups),
+        ("listing", listing::listing),
         ("hostile", hostile::hostile),
     ];
     for (name, section) in sections {

@@ -2,6 +2,7 @@
 //! the archive against plain Rust with the same passes, and journalctl's check of the same file.
 use crate::builder::Builder;
 use crate::plain_open;
+use crate::process::{self, time};
 use crate::timing::{heading, measure_long, row};
 use journal_host::generator::any::any;
 use journal_host::library;
@@ -9,12 +10,10 @@ use journal_host::random::Random;
 use journal_host::reading::layout::MOST_BYTES;
 use std::hint::black_box;
 use std::path::Path;
-use std::process::{Command, Stdio};
-use std::time::{Duration, Instant};
 
-struct Full {
+pub struct Full {
     label: String,
-    image: Vec<u8>,
+    pub image: Vec<u8>,
 }
 
 pub fn open() {
@@ -70,9 +69,18 @@ pub fn payloads(random: &mut Random, n: u64) -> Vec<Vec<u8>> {
     payloads.into_iter().map(String::into_bytes).collect()
 }
 
-fn full(keyed: bool, data_cells: u64) -> Full {
+/// A file of the greatest length with as many entries as fit.
+pub fn full(keyed: bool, data_cells: u64) -> Full {
+    let (n, image) = filled(MOST_BYTES as usize, keyed, data_cells, 333);
+    let hash = if keyed { "siphash24" } else { "lookup3" };
+    let label = format!("{n}, {data_cells}, {hash}");
+    Full { label, image }
+}
+
+/// A file with as many entries as fit, and their number.
+pub fn filled(length: usize, keyed: bool, data_cells: u64, field_cells: u64) -> (u64, Vec<u8>) {
     let random = &mut Random::new(3);
-    let mut builder = Builder::new(MOST_BYTES as usize, keyed, data_cells, 333);
+    let mut builder = Builder::new(length, keyed, data_cells, field_cells);
     let mut n = 0;
     while builder.append(
         &payloads(random, n),
@@ -80,17 +88,12 @@ fn full(keyed: bool, data_cells: u64) -> Full {
     ) {
         n += 1;
     }
-    let hash = if keyed { "siphash24" } else { "lookup3" };
-    let label = format!("{n}, {data_cells}, {hash}");
-    Full {
-        label,
-        image: builder.image,
-    }
+    (n, builder.image)
 }
 
 /// `journalctl --verify` of the same files, less what starting it takes; the best of some runs.
 fn journalctl(full: &[Full]) {
-    let Some(start) = time(&["--version"]) else {
+    let Some(start) = time(15, || process::journalctl(&["--version"])) else {
         println!("journalctl is not installed: its check is not measured");
         return;
     };
@@ -99,7 +102,7 @@ fn journalctl(full: &[Full]) {
         let path = std::env::temp_dir().join(format!("bench-{}-{i}.journal", std::process::id()));
         std::fs::write(&path, image).expect("a file for journalctl");
         let file = format!("--file={}", path.display());
-        match time(&[&file, "--verify"]) {
+        match time(15, || process::journalctl(&[&file, "--verify"])) {
             Some(took) => println!("{label:<26} {:>10.1?}", took.saturating_sub(start)),
             None => println!("{label:<26} refused: {}", said(&file, &path)),
         }
@@ -107,31 +110,9 @@ fn journalctl(full: &[Full]) {
     }
 }
 
-fn run(arguments: &[&str]) -> Option<bool> {
-    let status = Command::new("journalctl")
-        .args(arguments)
-        .stdin(Stdio::null())
-        .stdout(Stdio::null())
-        .stderr(Stdio::null())
-        .status();
-    status.ok().map(|status| status.success())
-}
-
-fn time(arguments: &[&str]) -> Option<Duration> {
-    let mut least = Duration::MAX;
-    for _ in 0..15 {
-        let start = Instant::now();
-        if !run(arguments)? {
-            return None;
-        }
-        least = least.min(start.elapsed());
-    }
-    Some(least)
-}
-
 /// What journalctl says of a file that it does not pass.
 fn said(file: &str, path: &Path) -> String {
-    match Command::new("journalctl").args([file, "--verify"]).output() {
+    match process::journalctl(&[file, "--verify"]).output() {
         Ok(output) => String::from_utf8_lossy(&output.stderr)
             .replace(&path.display().to_string(), "the file")
             .lines()

@@ -1,6 +1,6 @@
 //! Refusals 1 to 11 in plain Rust, written for speed, with the archive's passes: the walk and the
 //! map, links by the map, the committed entries, lists by counting, each hash once, xor_hash with
-//! what is kept of payloads' hashes, chains and lists with marks.
+//! what is kept of payloads' hashes, chains with a filter of hashes and marks, lists with marks.
 use super::plain::{next, refusal as framed, u32_at, u64_at, HEADER_LENGTH, LONGEST_IMAGE};
 use journal_host::reading::lookup3::hashlittle2;
 use journal_host::reading::siphash::siphash24;
@@ -15,6 +15,7 @@ const KIND: u8 = 15;
 const COMMITTED: u8 = 16;
 const CHAINED: u8 = 32;
 const LISTED: u8 = 64;
+const SEEN: u8 = 128;
 
 struct Open<'a> {
     image: &'a [u8],
@@ -327,27 +328,38 @@ impl Open<'_> {
     fn chains_fault(&mut self, table: usize, body: usize) -> bool {
         let start = self.word(table) as usize;
         let cells = self.word(table + 8) / 16;
+        let mut filter = [0u64; 16_384];
         for cell in 0..cells {
-            let mut at = self.word(start + 16 * cell as usize) as usize;
+            let head = self.word(start + 16 * cell as usize) as usize;
+            let mut at = head;
             while at != 0 {
                 let hash = self.word(at + 16);
                 if hash % cells != cell {
                     return true;
                 }
-                let next = self.word(at + 24) as usize;
-                let mut other = next;
-                while other != 0 {
-                    // The hash and next_hash, with one test of the bounds.
-                    let head = &self.image[other + 16..other + 32];
-                    if u64_at(head, 0) == hash && self.hashed(other, body) == self.hashed(at, body)
-                    {
-                        return true;
-                    }
-                    other = u64_at(head, 8) as usize;
+                let word = &mut filter[(hash >> 50) as usize];
+                let bit = 1 << (hash >> 44) % 64;
+                if *word & bit != 0 && self.alike_earlier(head, at, body) {
+                    return true;
                 }
+                *word |= bit;
                 self.map[at / 8] |= CHAINED;
-                at = next;
+                at = self.word(at + 24) as usize;
             }
+        }
+        false
+    }
+
+    fn alike_earlier(&self, head: usize, at: usize, body: usize) -> bool {
+        let hash = self.word(at + 16);
+        let mut other = head;
+        while other != at {
+            // The hash and next_hash, with one test of the bounds.
+            let words = &self.image[other + 16..other + 32];
+            if u64_at(words, 0) == hash && self.hashed(other, body) == self.hashed(at, body) {
+                return true;
+            }
+            other = u64_at(words, 8) as usize;
         }
         false
     }
@@ -356,7 +368,10 @@ impl Open<'_> {
         let mut at = HEADER_LENGTH;
         while at <= self.tail {
             if self.image[at] == FIELD {
-                let chained = self.map[at / 8] & CHAINED != 0;
+                let mark = match self.map[at / 8] & CHAINED {
+                    0 => SEEN,
+                    _ => LISTED,
+                };
                 let mut data = self.word(at + 32) as usize;
                 while data != 0 {
                     let name = self.hashed(at, 40);
@@ -364,9 +379,10 @@ impl Open<'_> {
                     if name_length(payload).map(|n| &payload[..n]) != Some(name) {
                         return true;
                     }
-                    if chained {
-                        self.map[data / 8] |= LISTED;
+                    if self.map[data / 8] & mark != 0 {
+                        break;
                     }
+                    self.map[data / 8] |= mark;
                     data = self.word(data + 32) as usize;
                 }
             }

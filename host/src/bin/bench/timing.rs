@@ -35,8 +35,15 @@ pub fn measure<T>(mut archive: impl FnMut() -> T, mut plain: impl FnMut() -> T) 
     least
 }
 
-/// The same for calls that take longer than a machine with other work leaves to one process at a
-/// stretch: one call to a round, by the time that the processor spent on it.
+/// The least time of one closure alone.
+pub fn measure_one<T>(mut call: impl FnMut() -> T) -> f64 {
+    let calls = calls_per_round(&mut call);
+    let times = (0..ROUNDS).map(|_| time(&mut call, calls));
+    times.fold(f64::INFINITY, f64::min)
+}
+
+/// The same as `measure` for calls that take longer than a machine with other work leaves to one
+/// process at a stretch: one call to a round, by the time that the processor spent on it.
 pub fn measure_long<T>(
     rounds: usize,
     mut archive: impl FnMut() -> T,
@@ -107,6 +114,24 @@ pub fn row(label: &str, bytes: usize, times: &Times) {
         "{label:<18} {archive:>14.1} {plain:>14.1} {:>14.2} {:>14.2} {:>8.2}",
         bytes as f64 / archive,
         bytes as f64 / plain,
+        plain / archive
+    );
+}
+
+/// The same for calls that do not work through bytes.
+#[cfg(measure)]
+pub fn small_heading(title: &str) {
+    println!(
+        "{title:<18} {:>14} {:>14} {:>8}",
+        "archive ns", "plain ns", "ratio"
+    );
+}
+
+#[cfg(measure)]
+pub fn small_row(label: &str, times: &Times) {
+    let Times { archive, plain } = times;
+    println!(
+        "{label:<18} {archive:>14.1} {plain:>14.1} {:>8.2}",
         plain / archive
     );
 }

@@ -1,0 +1,2 @@
+-- Laws of the measured functions.
+pub mod Parts

@@ -1,0 +1,128 @@
+//! The questions to an image, and the answers of the archive and of the reading in the same words.
+use journal_host::generator::questions::Arguments;
+use journal_host::library;
+use journal_host::reading::ask::{ask, Answer, Question};
+use journal_host::reading::image::Image;
+use journal_host::reading::layout::{entry, kind};
+use journal_host::reading::lookup::Journal;
+
+/// An answer in the archive's words.
+#[derive(Clone, Copy, Debug, PartialEq, Eq)]
+pub enum Words {
+    Number(u64),
+    Part(library::Part),
+}
+
+/// The archive's answer.
+pub fn archive(image: &[u8], question: &Question) -> Words {
+    match question {
+        Question::Entry(place) => Words::Number(library::entry(image, *place)),
+        Question::FirstSeqnum(seqnum) => Words::Number(library::by_seqnum(image, *seqnum)),
+        Question::FirstRealtime(realtime) => Words::Number(library::by_realtime(image, *realtime)),
+        Question::Item(offset, place) => Words::Part(library::item(image, *offset, *place)),
+        Question::Holding(payload, place) => {
+            Words::Number(library::by_payload(image, payload, *place))
+        }
+        Question::Payload(name, place) => Words::Part(library::value(image, name, *place)),
+    }
+}
+
+/// Whether a question is answered by a part of the image.
+pub fn shows(question: &Question) -> bool {
+    matches!(question, Question::Item(..) | Question::Payload(..))
+}
+
+/// The reading's answer, of an image that opens.
+pub fn read(journal: &Journal, question: &Question) -> Words {
+    match ask(journal, question) {
+        Answer::Entry(offset) => Words::Number(offset),
+        Answer::Shown(part) => Words::Part(library::Part {
+            at: part.place,
+            len: part.length,
+        }),
+        Answer::None if shows(question) => Words::Part(library::Part::default()),
+        Answer::None => Words::Number(0),
+    }
+}
+
+/// "The stamps of a committed entry", and all 0 at any other offset.
+pub fn read_stamps(journal: &Journal, offset: u64) -> library::Stamps {
+    if !journal.committed.contains(&offset) {
+        return library::Stamps::default();
+    }
+    let word = |at: u64| journal.image.word(offset + at);
+    let object = journal.image.object_at(offset).expect("it is committed");
+    library::Stamps {
+        seqnum: word(entry::SEQNUM),
+        realtime: word(entry::REALTIME),
+        monotonic: word(entry::MONOTONIC),
+        boot_low: word(entry::BOOT_ID),
+        boot_high: word(entry::BOOT_ID + 8),
+        items: journal.image.entry_items(&object).len() as u64,
+    }
+}
+
+/// More arguments than the generator has: next to those that are there, and far from all.
+pub fn widen(arguments: &mut Arguments, length: u64) {
+    for edge in [u64::MAX - 7, u64::MAX - 63, 1 << 32, 1 << 62] {
+        arguments.seqnums.insert(edge);
+        arguments.realtimes.insert(edge);
+        arguments.offsets.insert(edge);
+    }
+    let about = |at: u64| [at.wrapping_sub(64), at.wrapping_sub(8), at, at + 1];
+    arguments.offsets.extend(about(length));
+    arguments.offsets.extend(about(length & !7));
+    let same: Vec<u64> = arguments.offsets.iter().copied().step_by(5).collect();
+    for offset in same {
+        arguments.offsets.insert(offset ^ 1);
+        arguments.offsets.insert(offset ^ 1 << 63);
+        arguments.offsets.insert(offset ^ 1 << 32);
+    }
+    for all in [&mut arguments.payloads, &mut arguments.names] {
+        let same: Vec<Vec<u8>> = all.iter().step_by(4).cloned().collect();
+        for mut bytes in same {
+            all.insert([&bytes[..], b"\0"].concat());
+            if let Some(last) = bytes.last_mut() {
+                *last ^= 1;
+                all.insert(bytes.clone());
+                bytes.pop();
+                all.insert(bytes);
+            }
+        }
+        all.insert(vec![b'A'; 70_000]);
+        all.insert(vec![0; 8]);
+    }
+}
+
+/// What to ask of an image that is refused: the answer is the same at every argument.
+pub fn of_refused(image: &[u8], number: u64) -> (Vec<Question>, Vec<u64>) {
+    let length = image.len() as u64;
+    let places = [0, 1, u64::MAX];
+    let mut offsets = vec![0, 8, 256, length, u64::MAX - 7, u64::MAX];
+    let mut payloads = vec![vec![], b"MESSAGE=".to_vec(), vec![b'A'; 9_000]];
+    let mut names = vec![vec![], b"MESSAGE".to_vec(), b"=".to_vec()];
+    if number >= 8 {
+        let walked = Image::walked(image);
+        let entries = walked.of_kind(kind::ENTRY);
+        offsets.extend(entries.iter().take(4).map(|object| object.offset));
+        for object in walked.of_kind(kind::DATA).iter().take(4) {
+            let payload = walked.payload(object).to_vec();
+            names.push(payload.split(|&byte| byte == b'=').next().unwrap().to_vec());
+            payloads.push(payload);
+        }
+    }
+    let mut all = Vec::new();
+    all.extend(places.map(Question::Entry));
+    all.extend(places.map(Question::FirstSeqnum));
+    all.extend(places.map(Question::FirstRealtime));
+    for place in places {
+        all.extend(offsets.iter().map(|&at| Question::Item(at, place)));
+        all.extend(
+            payloads
+                .iter()
+                .map(|it| Question::Holding(it.clone(), place)),
+        );
+        all.extend(names.iter().map(|it| Question::Payload(it.clone(), place)));
+    }
+    (all, offsets)
+}
