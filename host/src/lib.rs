@@ -2,13 +2,17 @@
 //!
 //! `library` is the safe wrapper over the archive, and the one place with `unsafe`, but for `measured`,
 //! the same for the benchmark's own archive.
+//! `groups` tells the groups of an append's stores apart.
 //! `random` gives tests and measurements their inputs.
 //! `reading` is an independent reading of the rules in plain Rust, to hold the archive against.
 //! `generator` makes good and damaged images and appends, for both.
+//! `against` holds the one against the other.
 //! `corpus` has files that journald wrote.
 //! `program` runs the listing program.
+pub mod against;
 pub mod corpus;
 pub mod generator;
+pub mod groups;
 pub mod library;
 #[cfg(measure)]
 pub mod measured;

@@ -2,12 +2,11 @@
 //! and every byte of the image then.
 use std::hint::black_box;
 
-use journal_host::generator::appends;
+use journal_host::against::lent::Lent;
 use journal_host::library::{carry_out, new, open};
 use journal_host::random::Random;
 use journal_host::reading::image::le64;
 use journal_host::reading::layout::{header, kind, MOST_BYTES};
-use journal_host::reading::plan::plan;
 use journal_host::reading::{carry, new_file};
 
 /// What is asked of a new file: data cells, field cells, keyed.
@@ -16,19 +15,9 @@ type Asked = (u64, u64, u64);
 /// Calls with `image` in the midst of other bytes, at an alignment that `tried` gives; those stay as
 /// they are. Gives the image as it is after the call.
 fn lent(image: &[u8], tried: u64, call: impl FnOnce(&mut [u8]) -> u64) -> (u64, Vec<u8>) {
-    let start = (tried % 9) as usize;
-    let around = tried as u8 | 1;
-    let mut buffer = vec![around; start];
-    buffer.extend_from_slice(image);
-    buffer.resize(buffer.len() + 24, around);
-    let answer = call(&mut buffer[start..start + image.len()]);
-    black_box(&mut buffer);
-    let (before, rest) = buffer.split_at(start);
-    let (image, behind) = rest.split_at(image.len());
-    assert!(
-        before.iter().chain(behind).all(|&byte| byte == around),
-        "a byte around the image changed"
-    );
+    let mut lent = Lent::new(image, tried);
+    let answer = call(lent.bytes_mut());
+    let image = lent.after().expect("no byte around the image changed");
     (answer, image.to_vec())
 }
 
@@ -313,25 +302,4 @@ fn long_images() {
         assert_eq!(carried.out(&image, &stores, 2), 0);
         assert_eq!(carried.out(&image, &stores, 3), 21);
     }
-}
-
-/// The stores of an append that the reading works out, at every cut: each leaves an image that opens.
-#[test]
-fn appends_cut_in_the_middle() {
-    let mut carried = Carried::default();
-    for seed in 0..150 {
-        let case = appends::good(&mut Random::new(seed));
-        let Ok(stores) = plan(&case.image, &case.asked.request()) else {
-            continue;
-        };
-        let stores: Vec<_> = stores.iter().map(|it| (it.offset, it.value)).collect();
-        for k in 0..=stores.len() as u64 {
-            let mut image = case.image.clone();
-            assert_eq!(carried.out(&image, &list(&stores), k), 0);
-            assert_eq!(carry_out(&mut image, &list(&stores), k), 0);
-            assert_eq!(open(&image), 0, "a cut at {k} of {}", stores.len());
-        }
-    }
-    carried.print("appends cut in the middle");
-    assert!(carried.done > 1_000);
 }

@@ -93,9 +93,66 @@ pub fn targeted(clause: Clause, random: &mut Random) -> Case {
     }
 }
 
+/// An append meant for a clause of 12 to 18 with at least one other of its number or a higher one:
+/// the lowest is the answer.
+pub fn in_company(clause: Clause, random: &mut Random) -> Case {
+    assert!(clause.number < LIST_SHORT.number, "nothing is above it");
+    loop {
+        let mut all = beside(clause, random);
+        if all.is_empty() {
+            continue;
+        }
+        all.push(clause);
+        // Damages that draw the image anew come before those that set a word.
+        all.sort_by_key(|&it| !untidy::redraws(it));
+        let mut made = tidy(random);
+        let of = |low: u64, high: u64| {
+            let all = all.iter().copied();
+            all.filter(move |it| (low..=high).contains(&it.number))
+        };
+        if !of(12, 14).all(|it| untidy::damage(it, random, &mut made)) {
+            continue;
+        }
+        let mut asked = fitting(random, &made.image);
+        if !of(15, 17).all(|it| change(it, random, &made.image, &mut asked)) {
+            continue;
+        }
+        let mut image = made.image;
+        if of(18, 18).next().is_some() {
+            let image_now = Image::walked(&image);
+            let end = image_now.objects[image_now.objects.len() - 1].next() as u64;
+            image = with_arena_to(&image, end);
+        }
+        let short = of(19, 19).next().is_some();
+        let list = if short { random.below(32) } else { 16 * 3000 };
+        return Case { image, asked, list };
+    }
+}
+
+/// Clauses to stand beside one: at most one of each number from its own on.
+fn beside(clause: Clause, random: &mut Random) -> Vec<Clause> {
+    let mut others = Vec::new();
+    for number in clause.number..=19 {
+        let mut choices = APPEND_CLAUSES.to_vec();
+        choices.retain(|&it| it.number == number && it != clause);
+        if number == clause.number {
+            // Nothing else can be said of fields that are none or badly packed.
+            choices.retain(|it| !matches!(*it, NO_FIELDS | BADLY_PACKED));
+        }
+        if !choices.is_empty() && once_in(random, 2) {
+            others.push(pick(random, &choices));
+        }
+    }
+    others
+}
+
 /// An append of any kind: taken, aimed at a clause, spoiled, or to a damaged image.
 pub fn any(random: &mut Random) -> Case {
     let mut case = match random.below(4) {
+        0 if once_in(random, 3) => {
+            let below_19 = &APPEND_CLAUSES[..APPEND_CLAUSES.len() - 1];
+            in_company(pick(random, below_19), random)
+        }
         0 => targeted(pick(random, APPEND_CLAUSES), random),
         1 if once_in(random, 4) => Case {
             image: super::damage::damaged(random),

@@ -6,6 +6,7 @@ pub mod dice;
 pub mod draft;
 mod facts;
 pub mod frame;
+pub mod full;
 pub mod good;
 pub mod grown;
 mod lists;

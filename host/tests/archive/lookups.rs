@@ -1,7 +1,8 @@
 //! The archive's lookups against the independent reading: every question at every argument where an
 //! answer may change, at every place, of images that open and of images that do not.
-use super::questions::{archive, of_refused, read, read_stamps, shows, widen, Words};
+use super::questions::{of_refused, widen};
 use super::trial::{hex, lend};
+use journal_host::against::lookups::{archive, read, read_stamps, shows, Words};
 use journal_host::corpus::{self, FILES};
 use journal_host::generator::any::{any, cut, larger};
 use journal_host::generator::questions::Arguments;

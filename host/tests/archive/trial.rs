@@ -1,8 +1,8 @@
 //! How an image is tried: lent in the midst of other bytes, and a call's answer held against the
 //! reading's.
 use std::collections::BTreeMap;
-use std::hint::black_box;
 
+use journal_host::against::lent::Lent;
 use journal_host::generator::damage;
 use journal_host::generator::frame::set;
 use journal_host::random::Random;
@@ -11,16 +11,10 @@ use journal_host::reading::refusal::{clauses, Clause, CLAUSES};
 /// Lends the image in the midst of other bytes, at an alignment that goes with the number, and sees
 /// that neither the image nor what is around it changed.
 pub fn lend<T>(image: &[u8], number: u64, call: impl FnOnce(&[u8]) -> T) -> T {
-    let start = (number % 9) as usize;
-    let mut buffer = vec![number as u8; start];
-    buffer.extend_from_slice(image);
-    buffer.resize(buffer.len() + 24, number as u8);
-    let before = buffer.clone();
-
-    let answer = call(&buffer[start..start + image.len()]);
-    // The compiler may take what it lent as unchanged; this makes it look at the bytes again.
-    black_box(&mut buffer);
-    assert!(buffer == before, "the image or what is around it changed");
+    let mut lent = Lent::new(image, number);
+    let answer = call(lent.bytes());
+    let same = lent.after() == Some(image);
+    assert!(same, "the image or what is around it changed");
     answer
 }
 

@@ -1,4 +1,5 @@
 //! The stores of an append word by word, the sizes of arrays, and carrying out.
+use journal_host::generator::full::full;
 use journal_host::generator::worked::{appended, first, made, request, second, LAST};
 use journal_host::reading::carry::carry_out;
 use journal_host::reading::image::Image;
@@ -102,8 +103,7 @@ fn arrays_grow_from_4_by_twice() {
 
 #[test]
 fn arrays_have_at_most_65536_items() {
-    let n = 40_000;
-    let image = full_arrays(n);
+    let image = full(&[40_000], false, 2_000_000);
     let fields = packed(&[b"A=1"]);
     let ask = Request {
         machine_id: [2; 16],
@@ -116,68 +116,6 @@ fn arrays_have_at_most_65536_items() {
         .filter(|&value| value == 24 + 8 * 65_536)
         .collect();
     assert_eq!(sizes.len(), 2);
-}
-
-/// One DATA, one FIELD and n entries, with both chains in one full array each.
-fn full_arrays(n: usize) -> Vec<u8> {
-    use journal_host::generator::draft::{Array, Data, Draft, Entry, Field, Item, Part};
-    let entries = 4..4 + n;
-    let items: Vec<Item> = entries.clone().map(Item::Entry).collect();
-    let entry_offset = items[0];
-    let listed = items[1..].to_vec();
-    let payload = b"A=1".to_vec();
-    let mut parts = vec![
-        Part::Data(Data {
-            payload,
-            chained: Some(0),
-            listed: true,
-            entry_offset,
-            entry_array: Some(3),
-            n_entries: n as u64,
-        }),
-        Part::Field(Field {
-            name: b"A".to_vec(),
-            chained: Some(0),
-            heads: true,
-        }),
-        Part::Array(Array { next: None, items }),
-        Part::Array(Array {
-            next: None,
-            items: listed,
-        }),
-    ];
-    for number in 1..=n as u64 {
-        let (realtime, monotonic) = (number, number);
-        parts.push(Part::Entry(Entry {
-            seqnum: number,
-            realtime,
-            monotonic,
-            boot_id: [0; 16],
-            items: vec![0],
-        }));
-    }
-    let draft = Draft {
-        file_id: [1; 16],
-        machine_id: [2; 16],
-        boot_id: [3; 16],
-        seqnum_id: [4; 16],
-        compatible_flags: 0,
-        keyed: false,
-        state: 0,
-        data_table_first: true,
-        data_cells: 3,
-        field_cells: 2,
-        order: (0..parts.len()).collect(),
-        parts,
-        committed: entries.collect(),
-        entry_array: Some(2),
-        spare: 2_000_000,
-        behind: 0,
-        noise: false,
-        free_facts: false,
-        keyed_xor: false,
-    };
-    journal_host::generator::render::render(&draft, &mut journal_host::random::Random::new(1)).image
 }
 
 #[test]

@@ -1,7 +1,9 @@
 //! Times the archive against plain Rust: `cargo run --offline --release --bin bench`.
-//! Sections are `hashes`, `frame`, `open`, `lookups`, `listing` and `hostile`; with their names only those are run.
+//! Sections are `hashes`, `frame`, `open`, `append`, `lookups`, `listing` and `hostile`; with
+//! their names only those are run.
 //!
 //! A ratio of 1.0 or more means that the archive is at least as fast as plain Rust.
+mod append;
 mod builder;
 mod frame;
 mod hostile;
@@ -23,10 +25,11 @@ use timing::{heading, measure, row};
 
 fn main() {
     let asked: Vec<String> = std::env::args().skip(1).collect();
-    let sections: [(&str, fn()); 6] = [
+    let sections: [(&str, fn()); 7] = [
         ("hashes", hashes),
         ("frame", frame::frame),
         ("open", open::open),
+        ("append", append::append),
         ("lookups", lookups::lookups),
         ("listing", listing::listing),
         ("hostile", hostile::hostile),

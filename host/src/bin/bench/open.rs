@@ -12,7 +12,7 @@ use std::hint::black_box;
 use std::path::Path;
 
 pub struct Full {
-    label: String,
+    pub label: String,
     pub image: Vec<u8>,
 }
 
@@ -69,9 +69,20 @@ pub fn payloads(random: &mut Random, n: u64) -> Vec<Vec<u8>> {
     payloads.into_iter().map(String::into_bytes).collect()
 }
 
+/// Sequence number, wall time and monotonic time of an entry.
+pub fn facts(n: u64) -> [u64; 3] {
+    [n + 1, 1_700_000_000_000_000 + 250_000 * n, 250_000 * n + 50]
+}
+
 /// A file of the greatest length with as many entries as fit.
 pub fn full(keyed: bool, data_cells: u64) -> Full {
-    let (n, image) = filled(MOST_BYTES as usize, keyed, data_cells, 333);
+    full_but(keyed, data_cells, 0)
+}
+
+/// The same with so many bytes left.
+pub fn full_but(keyed: bool, data_cells: u64, left: u64) -> Full {
+    let builder = Builder::new(MOST_BYTES as usize, keyed, data_cells, 333);
+    let (n, image) = fill(builder, left);
     let hash = if keyed { "siphash24" } else { "lookup3" };
     let label = format!("{n}, {data_cells}, {hash}");
     Full { label, image }
@@ -79,13 +90,13 @@ pub fn full(keyed: bool, data_cells: u64) -> Full {
 
 /// A file with as many entries as fit, and their number.
 pub fn filled(length: usize, keyed: bool, data_cells: u64, field_cells: u64) -> (u64, Vec<u8>) {
+    fill(Builder::new(length, keyed, data_cells, field_cells), 0)
+}
+
+fn fill(mut builder: Builder, left: u64) -> (u64, Vec<u8>) {
     let random = &mut Random::new(3);
-    let mut builder = Builder::new(length, keyed, data_cells, field_cells);
     let mut n = 0;
-    while builder.append(
-        &payloads(random, n),
-        [n + 1, 1_700_000_000_000_000 + 250_000 * n, 250_000 * n + 50],
-    ) {
+    while builder.room() >= left && builder.append(&payloads(random, n), facts(n)) {
         n += 1;
     }
     (n, builder.image)

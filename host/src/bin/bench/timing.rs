@@ -4,8 +4,8 @@ use std::time::{Duration, Instant};
 
 /// Nanoseconds per call.
 pub struct Times {
-    archive: f64,
-    plain: f64,
+    pub archive: f64,
+    pub plain: f64,
 }
 
 const ROUNDS: usize = 200;

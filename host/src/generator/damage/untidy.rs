@@ -6,6 +6,20 @@ use crate::random::Random;
 use crate::reading::layout::{header, table};
 use crate::reading::refusal::clause::*;
 
+/// Whether the damage for a clause draws the image anew, so that words set before are lost.
+pub fn redraws(clause: Clause) -> bool {
+    matches!(
+        clause,
+        COUNTER_ENTRIES
+            | DATA_OFF_CHAIN
+            | DATA_OFF_LIST
+            | FIELD_OFF_CHAIN
+            | DATA_WITHOUT_FIELD
+            | COUNTED_ABOVE
+            | ARRAY_TWICE
+    )
+}
+
 /// Damages a tidy image for a clause.
 pub fn damage(clause: Clause, random: &mut Random, made: &mut Rendered) -> bool {
     let at = match clause {
