@@ -25,3 +25,10 @@ pub fn groups(list: &[u8]) -> [usize; 8] {
     let four = from(three, &|n| n == five || value(n) < offset(1));
     [1, two, three, four, five, count - 2, count - 1, count]
 }
+
+/// Where a host syncs: behind groups 1 and 2, which share a sync, 3, 4, 5 and 6, which share one too, 7 and
+/// 8. Numbers of stores as in `groups`.
+pub fn syncs(list: &[u8]) -> [usize; 6] {
+    let [_, two, three, four, _, six, seven, eight] = groups(list);
+    [two, three, four, six, seven, eight]
+}

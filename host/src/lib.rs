@@ -1,6 +1,6 @@
 //! The host side of the journal library.
 //!
-//! `library` is the safe wrapper over the archive, and the one place with `unsafe`, but for `measured`,
+//! `library` is the safe wrapper over the archive, and the one folder with `unsafe`, but for `measured`,
 //! the same for the benchmark's own archive.
 //! `groups` tells the groups of an append's stores apart.
 //! `random` gives tests and measurements their inputs.

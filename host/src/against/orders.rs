@@ -1,16 +1,16 @@
-//! What a disk may hold where a host syncs between the groups of an append and no more often: all
-//! groups before one, and of that one any stores in any order. Groups 1 and 2 go together.
+//! What a disk may hold where a host syncs as `groups::syncs` has it and no more often: all stores up to
+//! one sync, and of those up to the next one any, in any order.
 use super::cuts::{all, questions, said};
 use super::plan::Append;
 use crate::generator::dice::{shuffle, some_of};
-use crate::groups::groups;
+use crate::groups::{groups, syncs};
 use crate::library::{self, carry_out};
 use crate::random::Random;
 use crate::reading::lookup::open;
 use crate::reading::plan;
 use crate::reading::request::Request;
 
-/// Some stores of each group, so often for each, on the groups before it: the image opens, and one
+/// Some of the stores before each sync, so often for each, on all before them: the image opens, and one
 /// question in `step` is answered as before the append, or from group 7 on as behind it. The
 /// number of images, or the refusal where the append is not taken.
 pub fn orders(
@@ -51,33 +51,28 @@ pub fn orders(
     let asked = questions(&old, &new);
     let (old, new) = (all(&old, &asked)?, all(&new, &asked)?);
     let mut tried = 0;
-    for (n, end) in ends.into_iter().enumerate().skip(1) {
-        // Groups 1 and 2 begin with the list.
-        let start = if n == 1 { 0 } else { ends[n - 1] };
+    let mut start = 0;
+    for end in syncs(&list) {
+        let name = format!("some stores from {start} to {end} of {}", ends[7]);
         for _ in 0..times {
             let stores: Vec<&[u8]> = list[16 * start..16 * end].chunks(16).collect();
             let mut some = some_of(random, &stores);
             shuffle(random, &mut some);
             // Group 7 is one store, and it commits.
-            let expected = match n == 7 || n == 6 && !some.is_empty() {
-                true => &new,
-                false => &old,
-            };
+            let committed = start == ends[6] || start == ends[5] && !some.is_empty();
+            let expected = if committed { &new } else { &old };
             let image = carried(&[&list[..16 * start], &some.concat()].concat())?;
             if library::open(&image) != 0 {
-                return Err(format!("some stores of group {}: refused", n + 1));
+                return Err(format!("{name}: refused"));
             }
             for at in (random.below(step)..asked.len()).step_by(step) {
                 if said(&image, &asked[at]).as_ref() != Some(&expected[at]) {
-                    return Err(format!(
-                        "some stores of group {}: {:?}",
-                        n + 1,
-                        expected[at]
-                    ));
+                    return Err(format!("{name}: {:?}", expected[at]));
                 }
             }
             tried += 1;
         }
+        start = end;
     }
     Ok(Ok(tried))
 }

@@ -11,6 +11,7 @@ pub mod listing;
 pub mod lookup3;
 pub mod lookup;
 pub mod new_file;
+pub mod pages;
 pub mod plan;
 pub mod refusal;
 pub mod request;

@@ -5,6 +5,8 @@ mod frames;
 mod hashes;
 mod lookups;
 mod open;
+mod pages;
+mod paging;
 mod questions;
 mod trial;
 mod words;

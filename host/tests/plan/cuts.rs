@@ -125,9 +125,9 @@ fn appends_one_behind_another() {
     assert!(tried.appends > 20);
 }
 
-/// Where a host syncs between groups, a disk may hold any stores of one group, in any order.
+/// Of the stores between two syncs a disk may hold any, in any order.
 #[test]
-fn any_stores_of_a_group() {
+fn any_stores_between_syncs() {
     let (mut appends, mut images) = (0, 0);
     for seed in 0..150 {
         let random = &mut Random::new(seed + 30_000);
@@ -138,6 +138,6 @@ fn any_stores_of_a_group() {
             Err(difference) => panic!("{difference}"),
         }
     }
-    println!("any stores of a group: {appends} appends, {images} images");
+    println!("any stores between syncs: {appends} appends, {images} images");
     assert!(appends > 80);
 }

@@ -4,5 +4,6 @@ mod corpus;
 mod cuts;
 mod examples;
 mod freedoms;
+mod pages;
 mod refusals;
 mod stores;

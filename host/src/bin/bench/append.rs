@@ -1,7 +1,7 @@
 //! Working out an append to a file of the greatest length, against opening it; and a new file and
 //! carrying out, against plain Rust.
 use crate::open::{facts, full_but, payloads, Full};
-use crate::timing::{heading, measure_long, row};
+use crate::timing::{heading, measure_long, measure_ratio, row};
 use journal_host::library::{self, Planned, Request};
 use journal_host::random::Random;
 use journal_host::reading::layout::MOST_BYTES;
@@ -45,17 +45,14 @@ fn plan(what: &str, full: &Full, payloads: &[Vec<u8>]) {
     let Planned::Stores { count } = library::plan(image, &request, &mut list) else {
         panic!("the append is taken");
     };
-    let times = measure_long(
+    let ([plan, open], openings) = measure_ratio(
         60,
         || library::plan(black_box(image), black_box(&request), &mut list).refusal(),
         || library::open(black_box(image)),
     );
     println!(
-        "{:<44} {count:>8} {:>14.1} {:>14.1} {:>10.2}",
-        format!("{}, {what}", full.label),
-        times.archive,
-        times.plain,
-        times.archive / times.plain
+        "{:<44} {count:>8} {plan:>14.1} {open:>14.1} {openings:>10.2}",
+        format!("{}, {what}", full.label)
     );
 }
 

@@ -1,15 +1,17 @@
 //! Listing all entries: of files of at most 65,536 bytes by the program `list`, by plain Rust in this
-//! process and by journalctl, and of one of the greatest length by the inner lookups.
+//! process and by journalctl, and of one of the greatest length by the inner lookups, by one page and
+//! by `journal list`.
 use crate::open::{filled, full};
-use crate::process::{journalctl, spent};
-use crate::timing::measure_one;
+use crate::process::{journalctl, mean, spent};
 #[cfg(measure)]
-use crate::timing::{heading, measure_long, row};
+use crate::timing::{heading, row};
+use crate::timing::{measure_long, measure_one};
 use crate::{plain_lookup, plain_open};
 use journal_host::corpus;
 #[cfg(measure)]
 use journal_host::measured::Opened;
-use journal_host::program;
+use journal_host::{library, program};
+use std::ffi::OsStr;
 use std::fmt::Write;
 use std::fs::File;
 use std::hint::black_box;
@@ -82,6 +84,7 @@ pub fn listing() {
 fn longest(path: &Path) {
     let image = full(true, 4_095).image;
     std::fs::write(path, &image).expect("a file to list");
+    against_opening(path, &image);
     let file = format!("--file={}", path.display());
     let shown = |format: &str| journalctl(&[&file, "--quiet", "-o", format]);
     let [version, short, export] = spent(
@@ -109,6 +112,46 @@ fn longest(path: &Path) {
         cell(less(short)),
         cell(less(export))
     );
+}
+
+/// One page with all entries, and `journal list` as a process of its own, in openings of the same file.
+fn against_opening(path: &Path, image: &[u8]) {
+    let mut page = vec![0; image.len()];
+    let count = library::page_entries(image, 0, &mut page).count;
+    let times = measure_long(
+        60,
+        || library::page_entries(black_box(image), 0, &mut page).count,
+        || library::open(black_box(image)),
+    );
+    let row = |what: &str, took: f64| {
+        let openings = took / times.plain;
+        println!(
+            "{what:<16} {count:>12} {:>12.1} {openings:>12.2}",
+            took / 1e6
+        );
+    };
+    println!(
+        "{:<16} {:>12} {:>12} {:>12}",
+        "8 MiB", "entries", "ms", "openings"
+    );
+    row("open", times.plain);
+    row("one page", times.archive);
+    let program = std::env::current_exe().map(|own| own.with_file_name("journal"));
+    let program = program.expect("this program has a path");
+    let journal = |last: &OsStr| {
+        let mut command = Command::new(&program);
+        command.arg("list").arg(last);
+        command
+    };
+    let [listed, start] =
+        [path.as_ref(), OsStr::new("--help")].map(|last| mean(40, || journal(last)));
+    match (listed, start) {
+        (Some(listed), Some(start)) => {
+            row("journal list", listed.as_nanos() as f64);
+            row("its start", start.as_nanos() as f64);
+        }
+        _ => println!("journal list is measured after `cargo build --bin journal`"),
+    }
 }
 
 /// The sequence numbers of all committed entries, added up.

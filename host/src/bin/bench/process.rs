@@ -19,6 +19,29 @@ pub fn time(runs: usize, command: impl Fn() -> Command) -> Option<Duration> {
     Some(least)
 }
 
+/// What the processor spent on a program with all its threads, the mean of some runs. None as for
+/// `time`, or where the system does not tell. What it prints is thrown away.
+pub fn mean(runs: u32, command: impl Fn() -> Command) -> Option<Duration> {
+    let start = spent_on_all()?;
+    for _ in 0..runs {
+        let mut command = command();
+        command.stdout(Stdio::null()).stderr(Stdio::null());
+        if !command.status().ok()?.success() {
+            return None;
+        }
+    }
+    Some((spent_on_all()? - start) / runs)
+}
+
+/// What the processor spent on all programs that this one has waited for, in hundredths of a second.
+fn spent_on_all() -> Option<Duration> {
+    let text = std::fs::read_to_string("/proc/self/stat").ok()?;
+    // The name stands in parentheses; cutime and cstime are the 14th and 15th word behind it.
+    let words: Vec<&str> = text.rsplit(')').next()?.split_whitespace().collect();
+    let ticks = |place: usize| words.get(place)?.parse::<u64>().ok();
+    Some(Duration::from_millis(10 * (ticks(13)? + ticks(14)?)))
+}
+
 /// The microseconds that the processor spent on each of some programs, the best of some runs in turns.
 /// None where one can't be run, does not end well, or the system does not tell.
 pub fn spent<const N: usize>(runs: usize, commands: [&dyn Fn() -> Command; N]) -> [Option<f64>; N] {

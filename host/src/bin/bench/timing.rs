@@ -60,6 +60,24 @@ pub fn measure_long<T>(
     least
 }
 
+/// The same, and the middle of the rounds' ratios of the first to the second. What disturbs a machine
+/// for longer than a round meets both, so the ratio holds still where the least times do not.
+pub fn measure_ratio<T>(
+    rounds: usize,
+    mut first: impl FnMut() -> T,
+    mut second: impl FnMut() -> T,
+) -> ([f64; 2], f64) {
+    let mut least = [f64::INFINITY; 2];
+    let mut ratios = Vec::new();
+    for _ in 0..rounds {
+        let times = [time_long(&mut first, 1), time_long(&mut second, 1)];
+        least = [least[0].min(times[0]), least[1].min(times[1])];
+        ratios.push(times[0] / times[1]);
+    }
+    ratios.sort_by(f64::total_cmp);
+    (least, ratios[rounds / 2])
+}
+
 /// Nanoseconds of the processor per call.
 pub fn time_long<T>(call: &mut impl FnMut() -> T, calls: u32) -> f64 {
     let wall = Instant::now();
