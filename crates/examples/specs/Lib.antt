@@ -1,2 +1,2 @@
--- The worked examples, computed.
+-- The worked examples of the rules, computed over the definitions, as one statement. Nothing to call.
 pub mod Examples

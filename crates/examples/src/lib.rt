@@ -1,1 +1,1 @@
-// The worked examples of the rules, computed over the definitions.
+// The worked examples of the rules, computed over the definitions, as one statement. Nothing to call.

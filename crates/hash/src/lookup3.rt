@@ -1,23 +1,17 @@
 // Bob Jenkins' lookup3.c: hashlittle2 with both starting values 0.
-use crate::number::add32;
-use crate::number::joined;
-use crate::number::low32;
-use crate::number::rot32;
-use crate::number::sub32;
-use crate::number::u32_at;
-use crate::number::u32_or_0;
+use format::hash_state::Abc;
+use number::number::add32;
+use number::number::joined;
+use number::number::low32;
+use number::number::rot32;
+use number::number::sub32;
+use number::number::u32_at;
+use number::number::u32_or_0;
 ghost use mathlib.Core.Path.{_≡_};
 ghost use Prim.Native.Nat.{_+_, _*_, _<_, _≤_};
 ghost use lib.ListN.{length};
-ghost use Rattle.hash.specs.Lookup3.{mixLines, finalLines, finalLine, final, start, absorb, mixed, lastBlock, hashlittle2};
-ghost use Rattle.hash.specs.Lookup3.{mix as Lookup3·mix};
-
-// lookup3.c's three words.
-pub struct Abc {
-    pub a: u32,
-    pub b: u32,
-    pub c: u32,
-}
+ghost use Rattle.format.specs.Lookup3.{mixLines, finalLines, finalLine, final, start, absorb, mixed, lastBlock, hashlittle2};
+ghost use Rattle.format.specs.Lookup3.{mix as Lookup3·mix};
 
 // Three lines of lookup3.c's mix(a, b, c), with the amounts that they rotate by.
 fn mix_lines(s: Abc, i: u32, j: u32, k: u32) -> Abc

@@ -1,24 +1,17 @@
 // SipHash-2-4: two rounds for each word of the message, four at the end.
-use crate::number::add64;
-use crate::number::low8;
-use crate::number::rot64;
-use crate::number::u56_or_0;
-use crate::number::u64_at;
+use format::hash_state::State;
+use number::number::add64;
+use number::number::low8;
+use number::number::rot64;
+use number::number::u56_or_0;
+use number::number::u64_at;
 ghost use mathlib.Core.Path.{_≡_};
-ghost use Prim.Native.Nat.{_+_, _*_, _≤_};
+ghost use Prim.Native.Nat.{_*_, _≤_};
 ghost use lib.ListN.{length};
-ghost use Rattle.hash.specs.SipHash.{sipRound, compressed, lastWord, sipHash24};
-ghost use Rattle.hash.specs.SipHash.{initialization as SipHash·initialization};
-ghost use Rattle.hash.specs.SipHash.{compression as SipHash·compression};
-ghost use Rattle.hash.specs.SipHash.{finalization as SipHash·finalization};
-
-// The paper's four words.
-pub struct State {
-    pub v0: u64,
-    pub v1: u64,
-    pub v2: u64,
-    pub v3: u64,
-}
+ghost use Rattle.format.specs.SipHash.{sipRound, compressed, lastWord, sipHash24};
+ghost use Rattle.format.specs.SipHash.{initialization as SipHash·initialization};
+ghost use Rattle.format.specs.SipHash.{compression as SipHash·compression};
+ghost use Rattle.format.specs.SipHash.{finalization as SipHash·finalization};
 
 // SipRound.
 fn round(s: State) -> State

@@ -4,7 +4,7 @@ use Prim.Native.Nat.{suc, _+_, _-_, _*_, _/_, _<_}
 use native.Mathlib.Omega.{arith}
 use lib.ListN.{length}
 use borrow.Author.Needs.{needs}
-use Rattle.hash.specs.Lookup3.{mixed, lastBlock}
+use Rattle.format.specs.Lookup3.{mixed, lastBlock}
 use Rattle.hash.proofs.lookup3.blocks.Statement.{statement}
 use Rattle.hash.proofs.lookup3.blocks.Tie as tie
 

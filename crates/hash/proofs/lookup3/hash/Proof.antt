@@ -1,7 +1,7 @@
 -- `hash::lookup3::hash` meets its contract. No byte, no block; otherwise the loop leaves one block for the end.
 use borrow.Author.Tests.{eq-eqb, ne-eqb}
-use Rattle.hash.specs.Number.{plus}
-use Rattle.hash.specs.Lookup3.{start, hashlittle2}
+use Rattle.format.specs.Number.{plus}
+use Rattle.format.specs.Lookup3.{start, hashlittle2}
 use borrow.Author.Needs.{needs}
 use Rattle.hash.proofs.lookup3.hash.Statement.{statement}
 use Rattle.hash.proofs.lookup3.hash.Tie as tie

@@ -2,8 +2,8 @@
 use mathlib.Core.Path.{_≡_}
 use Prim.Native.Nat.{_+_, _%_, _^_}
 use native.Mathlib.Omega.{arith}
-use Rattle.hash.specs.Number.{plus}
-use Rattle.hash.specs.Lookup3.{start}
+use Rattle.format.specs.Number.{plus}
+use Rattle.format.specs.Lookup3.{start}
 use borrow.Author.Needs.{needs}
 use Rattle.hash.proofs.lookup3.started.Statement.{statement}
 use Rattle.hash.proofs.lookup3.started.Tie as tie

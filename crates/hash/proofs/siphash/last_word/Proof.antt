@@ -1,5 +1,5 @@
 -- `hash::siphash::last_word` meets its contract. Each step is what its callee ensures.
-use Rattle.hash.specs.SipHash.{lastWord}
+use Rattle.format.specs.SipHash.{lastWord}
 use borrow.Author.Needs.{needs}
 use Rattle.hash.proofs.siphash.last_word.Statement.{statement}
 use Rattle.hash.proofs.siphash.last_word.Tie as tie

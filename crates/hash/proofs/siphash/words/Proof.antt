@@ -3,8 +3,8 @@ use mathlib.Core.Path.{_≡_}
 use Prim.Native.Nat.{_-_, _≤_}
 use native.Mathlib.Numerals.{add-one}
 use borrow.Author.Needs.{needs}
-use Rattle.hash.specs.SipHash.{compressed}
-use Rattle.hash.proofs.Counted.{counted}
+use Rattle.format.specs.SipHash.{compressed}
+use Rattle.format.proofs.Counted.{counted}
 use Rattle.hash.proofs.siphash.words.Statement.{statement}
 use Rattle.hash.proofs.siphash.words.Tie as tie
 

@@ -1,0 +1,2 @@
+-- benchmark
+pub mod Answer

@@ -1,2 +1,0 @@
--- Laws of the measured functions.
-pub mod Parts

@@ -1,2 +1,0 @@
--- What the measured functions answer.
-pub mod Answer

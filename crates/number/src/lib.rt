@@ -1,0 +1,2 @@
+// Little-endian numbers, rotations, and sums that wrap.
+pub mod number;

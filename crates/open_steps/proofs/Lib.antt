@@ -1,0 +1,24 @@
+-- Laws: what the functions that open an image know of each other: the object map, its marks, and tests part by part. Nothing to call.
+pub mod CellLists
+pub mod CellLoops
+pub mod ChainLoops
+pub mod ChainWalk
+pub mod EntryItems
+pub mod FieldLists
+pub mod FieldPass
+pub mod FieldWalk
+pub mod FilterLaws
+pub mod Items
+pub mod KeptLaws
+pub mod Lands
+pub mod LastCommitted
+pub mod LinkTests
+pub mod ListCounts
+pub mod Maps
+pub mod MarkBytes
+pub mod MarkLaws
+pub mod Marked
+pub mod Parts
+pub mod Reaches
+pub mod Runs
+pub mod Selves
