@@ -1,8 +1,8 @@
 // What the benchmark measures and a host does not call by itself.
+use lookup::answer_number::number;
 use format::units::Offset;
 use format::units::Realtime;
 use format::units::Seqnum;
-use lookup::answer_number::number;
 ghost use mathlib.Core.Path.{_≡_};
 ghost use Prim.Native.Nat.{_*_, _≤_};
 ghost use lib.ListN.{length};
