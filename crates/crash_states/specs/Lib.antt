@@ -1,4 +1,2 @@
--- The states that a power cut can leave in an append, and demands 2 and 3. Nothing to call.
-pub mod Accepted
-pub mod Groups
+-- What an accepted append must do, demands 2 and 3. Nothing to call.
 pub mod Demand
