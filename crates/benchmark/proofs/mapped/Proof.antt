@@ -1,4 +1,4 @@
--- `measure::mapped` meets its contract. Where 1 to 7 do not apply the map can be made, and its slots are the kinds.
+-- `benchmark::mapped` meets its contract. Where 1 to 7 do not apply the map can be made, and its slots are the kinds.
 use Rattle.format.specs.Header.{Image}
 use Rattle.format.specs.Refusal.{frameRefusal}
 use Rattle.open_steps.specs.Map.{kindNumberAt, Mapped}
