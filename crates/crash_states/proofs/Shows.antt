@@ -5,7 +5,7 @@ use Rattle.format.specs.File.{model}
 use Rattle.reading.specs.Refusal.{refusal}
 use Rattle.reading.specs.View.{view}
 use Rattle.writing.specs.Request.{Request}
-use Rattle.partial_append.specs.Shown.{withEntry}
+use Rattle.writing.specs.Shown.{withEntry}
 use Rattle.crash_states.specs.Demand.{KeepsPayloads, newEntry}
 
 -- an image opens, shows what the old one shows, and keeps its payloads

@@ -4,6 +4,5 @@ pub mod Growing
 pub mod Agrees
 pub mod Extends
 pub mod Commits
-pub mod Shown
 pub mod Fits
 pub mod Between
