@@ -1,17 +1,27 @@
 // What the benchmark measures and a host does not call by itself.
 use lookup::answer_number::number;
+use lookup::answer_number::stamp_numbers;
 use format::units::Offset;
 use format::units::Realtime;
 use format::units::Seqnum;
 ghost use mathlib.Core.Path.{_≡_};
 ghost use Prim.Native.Nat.{_*_, _≤_};
 ghost use lib.ListN.{length};
+ghost use Rattle.format.specs.Refusal.{frameRefusal};
 ghost use Rattle.format.specs.File.{model};
 ghost use Rattle.reading.specs.View.{view};
 ghost use Rattle.reading.specs.Lookup.{found, entry, item, seqnumFrom, realtimeFrom, payloadIn, valueOf};
 ghost use Rattle.reading.specs.Answers.{Opened, answerNumber, shownBytes};
-ghost use Rattle.reading.specs.Stamps.{stampsOf};
+ghost use Rattle.reading.specs.Stamps.{stampsAt, stampNumbers};
 ghost use Rattle.benchmark.specs.Answer.{framedKind};
+
+// The lowest of refusals 1 to 7 that applies to the image, or 0.
+#[no_mangle]
+pub extern "C" fn benchmark_framed(image: &[u8]) -> u64
+    ensures { λ r. ⌜ r ≡ frameRefusal (now (image .entry)) ⌝ }
+{
+    object::refusal::frame_refusal(image)
+}
 
 // Refusals 1 to 7, and then the object map, in a map that is lent.
 fn mapped(image: &[u8], at: u64, map: &mut [u8]) -> u64
@@ -50,7 +60,7 @@ pub extern "C" fn measure_by_seqnum(image: &[u8], seqnum: u64) -> u64
     requires { ⌜ Opened (now image) ⌝ }
     ensures { λ r. ⌜ r ≡ answerNumber (found (seqnumFrom seqnum) (view (model (now (image .entry))))) ⌝ }
 {
-    number(entry_lookup::entries::from_seqnum(image, Seqnum(seqnum)))
+    number(entry_lookup::search::from_seqnum(image, Seqnum(seqnum)))
 }
 
 // Of an image that opens: the first committed entry with a wall time at or above one.
@@ -59,7 +69,7 @@ pub extern "C" fn measure_by_realtime(image: &[u8], realtime: u64) -> u64
     requires { ⌜ Opened (now image) ⌝ }
     ensures { λ r. ⌜ r ≡ answerNumber (found (realtimeFrom realtime) (view (model (now (image .entry))))) ⌝ }
 {
-    number(entry_lookup::entries::from_realtime(image, Realtime(realtime)))
+    number(entry_lookup::search::from_realtime(image, Realtime(realtime)))
 }
 
 // Of an image that opens: the committed entry holding a payload, by place.
@@ -77,7 +87,7 @@ pub extern "C" fn measure_item(image: &[u8], entry: u64, place: u64) -> u64
     requires { ⌜ Opened (now image) ⌝ }
     ensures { λ r. ⌜ r ≡ length (shownBytes (found (item entry place) (view (model (now (image .entry)))))) ⌝ }
 {
-    entry_lookup::entries::item_at(image, Offset(entry), place).len as u64
+    entry_lookup::items::item_at(image, Offset(entry), place).len as u64
 }
 
 // Of an image that opens: the length of the payload of a field name, by place.
@@ -93,7 +103,7 @@ pub extern "C" fn measure_value(image: &[u8], name: &[u8], place: u64) -> u64
 #[no_mangle]
 pub extern "C" fn measure_stamps(image: &[u8], entry: u64) -> u64
     requires { ⌜ Opened (now image) ⌝ }
-    ensures { λ r. ⌜ r ≡ stampsOf (now (image .entry)) entry .seqnum ⌝ }
+    ensures { λ r. ⌜ r ≡ stampNumbers (stampsAt entry (view (model (now (image .entry))) .entries)) .seqnum ⌝ }
 {
-    entry_lookup::stamps::stamps_at(image, Offset(entry)).seqnum
+    stamp_numbers(entry_lookup::stamps::stamps_at(image, Offset(entry))).seqnum
 }
