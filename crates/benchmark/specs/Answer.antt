@@ -12,7 +12,7 @@ use Rattle.reading.specs.Refusal.{refusal}
 use Rattle.reading.specs.View.{view}
 use Rattle.reading.specs.Lookup.{found, entry, item, seqnumFrom, realtimeFrom, payloadIn, valueOf}
 use Rattle.reading.specs.Answers.{answerNumber, shownBytes}
-use Rattle.reading.specs.Stamps.{stampsOf}
+use Rattle.reading.specs.Stamps.{stampsAt, stampNumbers}
 use Rattle.open_steps.specs.Map.{kindNumberAt}
 use Rattle.benchmark.specs.declared.question.Question.{Question}
 use Rattle.benchmark.specs.declared.question.Question.the-variants.{Entry, Seqnum, Realtime, Payload, Item, Value, Stamps}
@@ -43,7 +43,7 @@ answerOf img Realtime bytes place argument = answerNumber (found (realtimeFrom a
 answerOf img Payload bytes place argument = answerNumber (found (payloadIn bytes argument) (view (model img)))
 answerOf img Item bytes place argument = length (shownBytes (found (item argument place) (view (model img))))
 answerOf img Value bytes place argument = length (shownBytes (found (valueOf bytes argument) (view (model img))))
-answerOf img Stamps bytes place argument = stampsOf img argument .seqnum
+answerOf img Stamps bytes place argument = stampNumbers (stampsAt argument (view (model img) .entries)) .seqnum
 
 -- those of the first n arguments, added up modulo 2^64
 unfoldable pub total : Image → Question → List ℕ → ℕ → List ℕ → ℕ → ℕ
