@@ -1,9 +1,9 @@
 // What the benchmark measures and a host does not call by itself.
-use lookup::answer_number::number;
-use lookup::answer_number::stamp_numbers;
 use format::units::Offset;
 use format::units::Realtime;
 use format::units::Seqnum;
+use lookup::answer_number::number;
+use lookup::answer_number::stamp_numbers;
 ghost use mathlib.Core.Path.{_≡_};
 ghost use Prim.Native.Nat.{_*_, _≤_};
 ghost use lib.ListN.{length};

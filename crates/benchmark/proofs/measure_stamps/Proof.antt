@@ -9,7 +9,7 @@ use Rattle.benchmark.proofs.measure_stamps.Tie as tie
 
 returns : tie.Need-returns
 returns c =
-    ap (λ (s : StampNumbers). s .seqnum) (c .before .stamp-numbers .ensures ∙ ap (λ (a : StampsAnswer). stampNumbers a) (c .before .before .stamps-at .ensures))
+    ap (λ (s : StampNumbers). s .seqnum) (c .stamp-numbers .ensures ∙ ap (λ (a : StampsAnswer). stampNumbers a) (c .before .stamps-at .ensures))
 
 pub measure-stamps-spec : {M : Type 1} → statement M
 measure-stamps-spec = tie.close (tie.spec (λ c κs. search needs) (λ c κs. search needs) returns)
