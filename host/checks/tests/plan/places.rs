@@ -1,0 +1,231 @@
+//! Where new objects go: cells, FIELDs' lists, old DATA of count 0, and the arena's end.
+use checks::against::plan::Append;
+use checks::generator::draft::{Data, Draft, Entry, Field, Item, Part};
+use checks::generator::frame::set;
+use checks::generator::render::render;
+use checks::generator::worked::{first, request};
+use checks::random::Random;
+use reading::image::{arena_end, Image};
+use reading::layout::{header, MOST_BYTES};
+use reading::request::{packed, Request};
+
+use crate::made::{fields, made, Tried, MACHINE};
+
+/// Payloads whose hashes fall in one cell, or names, or both; behind nothing, and behind old ones.
+#[test]
+fn several_in_one_cell() {
+    let mut tried = Tried::default();
+    for keyed in [false, true] {
+        for cells in [1, 2, 7, 64] {
+            let mut image = made(60_000, (cells, cells), keyed);
+            for seqnum in 1..=6 {
+                let hash = |bytes: &[u8]| Image::walked(&image).hash(bytes) % cells;
+                let wanted = seqnum % 3 % cells;
+                let mut payloads = Vec::new();
+                let mut n = 1000 * seqnum;
+                while payloads.len() < 9 {
+                    n += 1;
+                    // Names of their own in odd appends, one new name for all in even ones.
+                    let name = match seqnum % 2 {
+                        1 => format!("N{n}"),
+                        _ => format!("M{seqnum}"),
+                    };
+                    let payload = format!("{name}={n}").into_bytes();
+                    let in_one = hash(&payload) == wanted;
+                    if in_one && (seqnum != 3 || hash(name.as_bytes()) == wanted) {
+                        payloads.push(payload);
+                    }
+                }
+                let fields = fields(&payloads);
+                let ask = request(&fields, seqnum, 0, 0);
+                assert_eq!(tried.append(&image, ask), 0);
+                tried.carried(&mut image, ask);
+            }
+        }
+    }
+    tried.print("several in one cell");
+}
+
+/// New payloads of old names and of new ones, old payloads and repeats, in every order.
+#[test]
+fn every_order_of_six_fields() {
+    let mut tried = Tried::default();
+    for cells in [(1, 1), (4, 3)] {
+        let mut image = made(8192, cells, cells == (1, 1));
+        let old = packed(&[b"OLD=1", b"OLD=2", b"A="]);
+        tried.carried(&mut image, request(&old, 1, 0, 0));
+        let six: [&[u8]; 6] = [b"OLD=2", b"OLD=3", b"NEW=1", b"NEW=", b"A=", b"NEW=1"];
+        let mut order: Vec<usize> = (0..6).collect();
+        // Heap's rule: every order, each by one exchange from the one before.
+        let mut turns = [0; 6];
+        let mut n = 0;
+        loop {
+            let fields = packed(&order.iter().map(|&it| six[it]).collect::<Vec<_>>());
+            assert_eq!(tried.append(&image, request(&fields, 2, 0, 0)), 0);
+            while n < 6 && turns[n] >= n {
+                turns[n] = 0;
+                n += 1;
+            }
+            if n == 6 {
+                break;
+            }
+            order.swap(if n % 2 == 0 { 0 } else { turns[n] }, n);
+            turns[n] += 1;
+            n = 0;
+        }
+    }
+    tried.print("every order of six fields");
+}
+
+/// A FIELD with three DATA that no entry holds, and one entry with a fourth.
+fn unheld(keyed: bool, stale: bool) -> Draft {
+    let data = |payload: &[u8], n_entries: u64| {
+        let entry_offset = if stale || n_entries > 0 {
+            Item::Entry(5)
+        } else {
+            Item::Raw(0)
+        };
+        Part::Data(Data {
+            payload: payload.to_vec(),
+            chained: Some(0),
+            listed: true,
+            entry_offset,
+            entry_array: None,
+            n_entries,
+        })
+    };
+    let parts = vec![
+        data(b"LOT=1", 0),
+        data(b"LOT=2", 0),
+        data(b"LOT=3", 1),
+        data(b"LOT=", 0),
+        Part::Field(Field {
+            name: b"LOT".to_vec(),
+            chained: Some(0),
+            heads: true,
+        }),
+        Part::Entry(Entry {
+            seqnum: 1,
+            realtime: 0,
+            monotonic: 0,
+            boot_id: [5; 16],
+            items: vec![2],
+        }),
+        Part::Array(checks::generator::draft::Array {
+            next: None,
+            items: vec![Item::Entry(5), Item::End],
+        }),
+    ];
+    Draft {
+        file_id: [1; 16],
+        machine_id: MACHINE,
+        boot_id: [3; 16],
+        seqnum_id: [4; 16],
+        compatible_flags: 0,
+        keyed,
+        state: 0,
+        data_table_first: true,
+        data_cells: 2,
+        field_cells: 2,
+        order: (0..parts.len()).collect(),
+        parts,
+        committed: vec![5],
+        entry_array: Some(6),
+        spare: 2048,
+        behind: 3,
+        noise: true,
+        free_facts: false,
+        keyed_xor: false,
+    }
+}
+
+#[test]
+fn old_data_of_count_0() {
+    let mut tried = Tried::default();
+    for keyed in [false, true] {
+        for stale in [false, true] {
+            let image = render(&unheld(keyed, stale), &mut Random::new(7)).image;
+            for chosen in 1u32..32 {
+                let all: [&[u8]; 5] = [b"LOT=1", b"LOT=2", b"LOT=3", b"LOT=", b"LOT=4"];
+                let some: Vec<&[u8]> = (0..5)
+                    .filter(|n| chosen >> n & 1 == 1)
+                    .map(|n| all[n])
+                    .collect();
+                let fields = packed(&some);
+                let ask = request(&fields, 2, 0, 0);
+                assert_eq!(tried.append(&image, ask), 0);
+                let mut after = image.clone();
+                tried.carried(&mut after, ask);
+                assert_eq!(tried.append(&after, request(&fields, 3, 0, 0)), 0);
+            }
+        }
+    }
+    tried.print("old DATA of count 0");
+}
+
+/// The arena's end at every word from the objects' end on, with bytes of the image behind it or not.
+#[test]
+fn arenas_around_the_end() {
+    let mut tried = Tried::default();
+    for (cells, payloads) in [
+        ((1, 1), vec![&b"A=1"[..]]),
+        ((3, 2), vec![b"A=1", b"A=12345678", b"B="]),
+        ((3, 2), vec![b"OLD=1"]),
+        ((3, 2), vec![b"OLD=1", b"OLD=2", b"NEW=1"]),
+    ] {
+        let mut image = made(4096, cells, payloads.len() > 1);
+        let old = packed(&[b"OLD=1", b"C=1"]);
+        for seqnum in 1..=4 {
+            tried.carried(&mut image, request(&old, seqnum, 0, 0));
+        }
+        let words = Image::walked(&image);
+        let start = words.objects[words.objects.len() - 1].next() as u64;
+        let fields = packed(&payloads);
+        let ask = request(&fields, 5, 0, 0);
+        let stores = Append::new(&image, ask).read.expect("taken");
+        let end = stores.iter().map(|it| it.offset).max().expect("some") + 8;
+        for arena_end in (start..end + 24).step_by(8) {
+            let number = if arena_end < end { 18 } else { 0 };
+            for behind in [0, 5, 800] {
+                let mut image = image.clone();
+                image.resize(arena_end as usize + behind, 0xaa);
+                set(&mut image, header::ARENA_SIZE, arena_end - 256);
+                assert_eq!(tried.append(&image, ask), number);
+            }
+        }
+    }
+    tried.print("arenas around the end");
+}
+
+/// Images of the greatest length whose new objects end with them, or would pass their end.
+#[test]
+fn longest_images() {
+    let mut tried = Tried::default();
+    let fields = first();
+    for keyed in [false, true] {
+        for room in [408, 416, 424, 4096] {
+            // A foreign object up to where the new ones are to begin.
+            let mut draft = unheld(keyed, false);
+            draft.parts = vec![Part::Foreign {
+                kind: 9,
+                size: MOST_BYTES - 256 - 2 * 48 - room,
+            }];
+            (draft.order, draft.committed) = (vec![0], Vec::new());
+            (draft.entry_array, draft.noise) = (None, false);
+            (draft.spare, draft.behind) = (room, 0);
+            let image = render(&draft, &mut Random::new(3)).image;
+            assert_eq!(arena_end(&image), u128::from(MOST_BYTES));
+            let number = if room < 416 { 18 } else { 0 };
+            let ask = request(&fields, 1, 0, 0);
+            assert_eq!(tried.append(&image, ask), number, "{room}");
+        }
+    }
+    // The largest tables.
+    let image = made(MOST_BYTES as usize, (65_536, 1_024), true);
+    assert_eq!(tried.append(&image, request(&fields, 1, 0, 0)), 0);
+    let other = Request {
+        machine_id: [0; 16],
+        ..request(&fields, 1, 0, 0)
+    };
+    assert_eq!(tried.append(&image, other), 15);
+}

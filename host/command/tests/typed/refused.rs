@@ -1,0 +1,168 @@
+//! Every refusal by its number, and a file that stays as it was.
+use crate::person::{append, asked, bytes, file, folder, made, options, typed, MACHINE};
+use checks::corpus::{self, FILES};
+use checks::generator::damage::targeted;
+use checks::generator::frame::set;
+use checks::random::Random;
+use reading::image::le64;
+use reading::layout::header;
+use reading::refusal::{refusal, CLAUSES};
+use std::path::Path;
+
+/// What every command says of a file that does not open.
+fn all_refuse(path: &Path) -> u64 {
+    let before = bytes(path);
+    let number = asked("check", path).refused(path);
+    let others = [
+        asked("list", path),
+        typed("show", path, &["1"]),
+        typed("find", path, &["--seqnum", "1"]),
+        typed("find", path, &["--time", "1"]),
+        typed("find", path, &["--field", "A=1"]),
+        typed("values", path, &["A"]),
+        append(path, 1, &["A=1"]),
+    ];
+    for said in others {
+        assert_eq!(said.refused(path), number);
+    }
+    assert_eq!(bytes(path), before);
+    number
+}
+
+/// 1 to 11: a damage for each clause.
+#[test]
+fn damaged_files() {
+    let folder = folder("damaged");
+    let mut met = [0; 12];
+    for &clause in CLAUSES {
+        let image = targeted(clause, &mut Random::new(clause.number));
+        let path = file(&folder, "damaged.journal", &image);
+        let number = refusal(&image);
+        if number == 0 {
+            continue;
+        }
+        assert_eq!(all_refuse(&path), number, "{clause:?}");
+        met[number as usize] += 1;
+    }
+    assert!(met[1..].iter().all(|&n| n > 0), "{met:?}");
+}
+
+#[test]
+fn the_words_of_the_table() {
+    let path = corpus::path("trixie-k1-c1-system");
+    let words = asked("check", &path).failed_with(&path);
+    assert_eq!(words, "refused 4: an incompatible bit other than bit 2");
+    let path = corpus::path("trixie-k1-c0-system");
+    let words = asked("check", &path).failed_with(&path);
+    let condition =
+        "header_size not 256, arena_size not a multiple of 8, or their sum above the image length";
+    assert_eq!(words, format!("refused 5: {condition}"));
+}
+
+/// Of files of journald: those that do not open, and what an append to the others is refused by.
+#[test]
+fn real_files() {
+    let folder = folder("real");
+    for (name, number) in FILES {
+        let path = file(&folder, name, &corpus::image(name));
+        if number != 0 {
+            assert_eq!(all_refuse(&path), number, "{name}");
+            continue;
+        }
+        let before = bytes(&path);
+        let refused = append(&path, 1_000_000, &["A=1"]).refused(&path);
+        let expected = match name {
+            "sealed-bullseye-c0-system" => 12,
+            "bullseye-k0-c0-system" => 15,
+            _ => 13,
+        };
+        assert_eq!(refused, expected, "{name}");
+        assert_eq!(bytes(&path), before);
+    }
+}
+
+/// 14 to 18, and what is said besides the table's words.
+#[test]
+fn appends() {
+    let folder = folder("refused-appends");
+    let path = made(&folder, "one.journal", "4096");
+    append(&path, 5, &["A=1"]).done();
+    let before = bytes(&path);
+
+    let mut untidy = before.clone();
+    set(
+        &mut untidy,
+        header::N_OBJECTS,
+        le64(&before, header::N_OBJECTS) + 1,
+    );
+    let other = file(&folder, "untidy.journal", &untidy);
+    assert_eq!(append(&other, 6, &["A=1"]).refused(&other), 14);
+    assert_eq!(bytes(&other), untidy);
+
+    let words = ["--machine", "ffffffffffffffffffffffffffffffff", "A=1"];
+    let said = typed("append", &path, &words).failed_with(&path);
+    let expected = format!("refused 15: machine id differs (the file's is {MACHINE})");
+    assert_eq!(said, expected);
+
+    let long = format!("A={}", "x".repeat(4_095));
+    let many: Vec<String> = (0..65).map(|n| format!("A={n}")).collect();
+    let many: Vec<&str> = many.iter().map(String::as_str).collect();
+    let wrong = [
+        &["a=1"][..],
+        &["A"],
+        &["=1"],
+        &["1A=1"],
+        &["A=1", ""],
+        &[&long],
+        &many,
+    ];
+    for fields in wrong {
+        assert_eq!(append(&path, 6, fields).refused(&path), 16, "{fields:?}");
+    }
+
+    assert_eq!(append(&path, 0, &["A=1"]).refused(&path), 17);
+    let said = append(&path, 5, &["A=1"]).failed_with(&path);
+    assert!(said.starts_with("refused 17: seqnum 0; or "), "{said}");
+    assert!(
+        said.ends_with(" (the last entry is 5 at 1700000000000005)"),
+        "{said}"
+    );
+    for name in ["--time", "--monotonic"] {
+        let mut words = options(6);
+        let place = words
+            .iter()
+            .position(|word| word == name)
+            .expect("an option");
+        words[place + 1] = "1".to_string();
+        words.push("A=1".to_string());
+        assert_eq!(typed("append", &path, &words).refused(&path), 17, "{name}");
+    }
+
+    let said = append(&path, 6, &[&long[..4_000]]).failed_with(&path);
+    let expected = "refused 18: the new objects pass the arena's end \
+                    (the file is full: make a new one)";
+    assert_eq!(said, expected);
+    assert_eq!(bytes(&path), before);
+}
+
+/// 20, and no file.
+#[test]
+fn new_files() {
+    let folder = folder("refused-new");
+    let path = folder.join("new.journal");
+    let wrong = [
+        &["--size", "312", "--data-cells", "1", "--field-cells", "1"][..],
+        &["--size", "0"],
+        &["--size", "65537"],
+        &["--size", "8388616"],
+        &["--size", "18446744073709551615"],
+        &["--data-cells", "0"],
+        &["--data-cells", "65537"],
+        &["--field-cells", "0"],
+        &["--field-cells", "1025"],
+    ];
+    for words in wrong {
+        assert_eq!(typed("new", &path, words).refused(&path), 20, "{words:?}");
+        assert!(!path.exists());
+    }
+}
