@@ -7,7 +7,8 @@ use reading::layout::MOST_BYTES;
 use reading::new_file::{new_file, NewFile};
 use reading::request::packed;
 use std::hint::black_box;
-use wrapper::raw::{self, Planned, Request};
+use wrapper::raw;
+use wrapper::{plan as planned, Planned, Request};
 
 pub fn append() {
     println!(
@@ -42,12 +43,12 @@ fn plan(what: &str, full: &Full, payloads: &[Vec<u8>]) {
     };
     let image = &full.image;
     let mut list = vec![0; 16 * 4096];
-    let Planned::Stores { count } = raw::plan(image, &request, &mut list) else {
+    let Planned::Stores { count } = planned(image, &request, &mut list) else {
         panic!("the append is taken");
     };
     let ([plan, open], openings) = measure_ratio(
         60,
-        || raw::plan(black_box(image), black_box(&request), &mut list).refusal(),
+        || raw::plan(black_box(image), black_box(&request), &mut list),
         || raw::open(black_box(image)),
     );
     println!(

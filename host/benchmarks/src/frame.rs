@@ -9,7 +9,7 @@ use checks::generator::frame::{frame as framed_image, set};
 use checks::random::Random;
 use reading::layout::{header, FIRST_OBJECT, MOST_BYTES};
 use std::hint::black_box;
-use wrapper::raw;
+use wrapper::framed::framed;
 
 struct Full {
     label: String,
@@ -39,7 +39,7 @@ pub fn frame() {
     for (title, plain) in passes {
         heading(title);
         for Full { label, image } in &full {
-            let times = measure(|| raw::framed(black_box(image)), || plain(black_box(image)));
+            let times = measure(|| framed(black_box(image)), || plain(black_box(image)));
             row(label, image.len(), &times);
         }
     }
@@ -93,7 +93,7 @@ fn full(label: &str, kinds: &[(u8, u64, u64)]) -> Full {
     let mut image = framed_image(&objects);
     image.resize(MOST_BYTES as usize, 0);
     set(&mut image, header::ARENA_SIZE, MOST_BYTES - FIRST_OBJECT);
-    assert_eq!(raw::framed(&image), 0);
+    assert_eq!(framed(&image), 0);
     let label = format!("{} {label}", objects.len() + 2);
     Full { label, image }
 }
@@ -102,7 +102,7 @@ fn full(label: &str, kinds: &[(u8, u64, u64)]) -> Full {
 fn same_answers() {
     for seed in 0..20_000 {
         let image = damaged(&mut Random::new(seed));
-        let answer = raw::framed(&image);
+        let answer = framed(&image);
         assert_eq!(plain::refusal(&image), answer);
         assert_eq!(plain::refusal_in_one_pass(&image), answer);
         #[cfg(measure)]

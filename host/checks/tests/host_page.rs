@@ -3,7 +3,6 @@
 use checks::corpus;
 use std::path::{Path, PathBuf};
 use std::process::Command;
-use wrapper::raw;
 
 const PAGE: &str = include_str!("../../../docs/HOST.md");
 
@@ -29,14 +28,14 @@ fn the_c_example() {
     let program = built();
     for (name, _) in corpus::FILES {
         let image = corpus::image(name);
-        let entry = raw::by_seqnum(&image, 37);
+        let entry = wrapper::by_seqnum(&image, 37);
         let mut expected = match entry {
-            0 => b"none 0".to_vec(),
-            ..256 => format!("refused {entry}").into_bytes(),
-            _ => {
-                let stamps = raw::stamps(&image, entry);
-                let part = raw::item(&image, entry, 0);
-                let payload = &image[part.at as usize..(part.at + part.len) as usize];
+            Ok(None) => b"none 0".to_vec(),
+            Err(refusal) => format!("refused {}", refusal.number()).into_bytes(),
+            Ok(Some(entry)) => {
+                let stamps = wrapper::stamps(&image, entry).expect("it opens");
+                let stamps = stamps.expect("an entry");
+                let payload = wrapper::item(&image, entry, 0).expect("an item");
                 let start = format!("{} {} ", stamps.seqnum, stamps.realtime);
                 [start.as_bytes(), payload].concat()
             }
@@ -45,6 +44,10 @@ fn the_c_example() {
         let path = corpus::path(name);
         let output = Command::new(&program).arg(path).output().expect("it runs");
         assert_eq!(output.stdout, expected, "{name}");
-        assert_eq!(output.status.code(), Some((entry < 256) as i32), "{name}");
+        assert_eq!(
+            output.status.code(),
+            Some(i32::from(!matches!(entry, Ok(Some(_))))),
+            "{name}"
+        );
     }
 }

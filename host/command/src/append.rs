@@ -2,7 +2,6 @@
 //! group by group, with a sync behind each, as the page for those who write a host has it.
 use crate::fault::{said, Fault};
 use crate::ids::{self, Id};
-use crate::pages::{self, Entry};
 use crate::system::{self, Mapped};
 use crate::text::counted;
 use crate::{files, times};
@@ -11,7 +10,7 @@ use std::io::Write;
 use std::path::Path;
 use std::time::{SystemTime, UNIX_EPOCH};
 use wrapper::groups::syncs;
-use wrapper::raw::{self, Planned, Request};
+use wrapper::{Entry, Planned, Refusal, Request};
 
 /// What was asked for; the rest is chosen here.
 pub struct Wish {
@@ -29,7 +28,7 @@ const STORES: usize = 4_096;
 
 pub fn append(path: &Path, wish: &Wish, out: &mut impl Write) -> Result<(), Fault> {
     let (file, image) = files::read_and_lock(path)?;
-    let entries = pages::entries(&image).map_err(|number| Fault::refused(path, number))?;
+    let entries = wrapper::all_entries(&image).map_err(|refusal| Fault::refused(path, refusal))?;
     let last = entries.last();
     let fields = packed(&wish.payloads);
     let request = Request {
@@ -44,7 +43,7 @@ pub fn append(path: &Path, wish: &Wish, out: &mut impl Write) -> Result<(), Faul
         fields: &fields,
     };
     let list = planned(&image, &request)
-        .map_err(|number| explained(Fault::refused(path, number), number, &image, last))?;
+        .map_err(|refusal| explained(Fault::refused(path, refusal), refusal, &image, last))?;
 
     // From here on the file is written. Its blocks come first: a store to a mapped hole on a full
     // disk would end the program in the midst of the append.
@@ -82,20 +81,19 @@ fn distinct(payloads: &[Vec<u8>]) -> usize {
 }
 
 /// The list of stores; or the refusal.
-fn planned(image: &[u8], request: &Request) -> Result<Vec<u8>, u64> {
+fn planned(image: &[u8], request: &Request) -> Result<Vec<u8>, Refusal> {
     let mut list = vec![0; 16 * STORES];
-    let mut answer = raw::plan(image, request, &mut list);
+    let mut answer = wrapper::plan(image, request, &mut list);
     if let Planned::TooShort { need } = answer {
         list.resize(16 * need as usize, 0);
-        answer = raw::plan(image, request, &mut list);
+        answer = wrapper::plan(image, request, &mut list);
     }
     match answer {
-        Planned::Stores { count } => {
-            list.truncate(16 * count as usize);
-            Ok(list)
-        }
-        _ => Err(answer.refusal()),
+        Planned::Stores { count } => list.truncate(16 * count as usize),
+        Planned::TooShort { .. } => unreachable!("the list is as long as was asked for"),
+        Planned::Refused(refusal) => return Err(refusal),
     }
+    Ok(list)
 }
 
 /// The last group before each sync.
@@ -109,16 +107,15 @@ fn carried_out(path: &Path, mapped: &mut Mapped, list: &[u8]) -> Result<u64, Fau
             continue;
         }
         let group = &list[16 * start..16 * end];
-        match raw::carry_out(mapped.bytes(), group, (end - start) as u64) {
-            0 => mapped.sync().map_err(|error| {
-                let said = said(&error);
-                Fault::of(
-                    path,
-                    format!("group {number} of 8 can't be synced: {said}; the append stops there"),
-                )
-            })?,
-            refusal => return Err(Fault::refused(path, refusal)),
-        }
+        wrapper::carry_out(mapped.bytes(), group, (end - start) as u64)
+            .map_err(|refusal| Fault::refused(path, refusal))?;
+        mapped.sync().map_err(|error| {
+            let said = said(&error);
+            Fault::of(
+                path,
+                format!("group {number} of 8 can't be synced: {said}; the append stops there"),
+            )
+        })?;
         start = end;
         count += 1;
     }
@@ -126,8 +123,8 @@ fn carried_out(path: &Path, mapped: &mut Mapped, list: &[u8]) -> Result<u64, Fau
 }
 
 /// What helps with a refusal of an append.
-fn explained(mut fault: Fault, number: u64, image: &[u8], last: Option<&Entry>) -> Fault {
-    let more = match (number, last) {
+fn explained(mut fault: Fault, refusal: Refusal, image: &[u8], last: Option<&Entry>) -> Fault {
+    let more = match (refusal.number(), last) {
         (13, _) => "it is in use, or an append was cut off: it can be read, a new file appended to"
             .to_string(),
         (15, _) => {

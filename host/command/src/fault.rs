@@ -1,9 +1,9 @@
 //! What goes wrong, in one line for a person, and the status that the program ends with.
-use crate::refusals;
 use crate::text::shown;
 use std::io::{Error, ErrorKind};
 use std::os::unix::ffi::OsStrExt;
 use std::path::Path;
+use wrapper::Refusal;
 
 pub struct Fault {
     pub words: String,
@@ -30,11 +30,9 @@ impl Fault {
     }
 
     /// The library refuses.
-    pub fn refused(file: &Path, number: u64) -> Fault {
-        Fault::of(
-            file,
-            format!("refused {number}: {}", refusals::words(number)),
-        )
+    pub fn refused(file: &Path, refusal: Refusal) -> Fault {
+        let (number, row) = (refusal.number(), refusal.row());
+        Fault::of(file, format!("refused {number}: {row}"))
     }
 
     /// The system refuses.

@@ -5,7 +5,7 @@ use crate::{files, system};
 use std::fs::{File, OpenOptions};
 use std::io::Write;
 use std::path::Path;
-use wrapper::{raw, LONGEST_IMAGE};
+use wrapper::LONGEST_IMAGE;
 
 /// What was asked for; the rest is chosen here.
 pub struct Wish {
@@ -32,11 +32,9 @@ pub fn new(path: &Path, wish: &Wish, out: &mut impl Write) -> Result<(), Fault> 
 
     // A length above the greatest is refused like the first of them.
     let mut image = vec![0; size.min(LONGEST_IMAGE + 8) as usize];
-    let keyed = u64::from(!wish.unkeyed);
-    match raw::new(&mut image, &all, data_cells, field_cells, keyed) {
-        0 => kept(path, &image)?,
-        number => return Err(Fault::refused(path, number)),
-    }
+    wrapper::new(&mut image, &all, data_cells, field_cells, !wish.unkeyed)
+        .map_err(|refusal| Fault::refused(path, refusal))?;
+    kept(path, &image)?;
     let hash = if wish.unkeyed { "unkeyed" } else { "keyed" };
     writeln!(
         out,

@@ -1,22 +1,21 @@
 //! The commands that only read: `list`, `show`, `find`, `values` and `check`.
 use crate::arguments::By;
 use crate::fault::Fault;
-use crate::pages::{self, Entry};
 use crate::text::{counted, shown};
 use crate::{files, table, times};
 use std::io::Write;
 use std::path::Path;
-use wrapper::raw;
+use wrapper::{Entry, Offset, Refusal};
 
 pub fn list(file: &Path, out: &mut impl Write) -> Result<(), Fault> {
     let image = files::read(file)?;
-    let entries = pages::entries(&image).map_err(|number| Fault::refused(file, number))?;
+    let entries = wrapper::all_entries(&image).map_err(|refusal| Fault::refused(file, refusal))?;
     table::lines(&entries, out).map_err(Fault::answer)
 }
 
 pub fn show(file: &Path, seqnum: u64, out: &mut impl Write) -> Result<(), Fault> {
     let image = files::read(file)?;
-    match found(file, &image, raw::by_seqnum(&image, seqnum))? {
+    match found(file, &image, wrapper::by_seqnum(&image, seqnum))? {
         Some(entry) if entry.seqnum == seqnum => table::full(&entry, out).map_err(Fault::answer),
         Some(next) => Err(Fault::of(
             file,
@@ -33,16 +32,20 @@ pub fn find(file: &Path, by: &By, out: &mut impl Write) -> Result<(), Fault> {
     let image = files::read(file)?;
     let (entries, wanted) = match by {
         By::Seqnum(seqnum) => (
-            Vec::from_iter(found(file, &image, raw::by_seqnum(&image, *seqnum))?),
+            Vec::from_iter(found(file, &image, wrapper::by_seqnum(&image, *seqnum))?),
             format!("with a sequence number of {seqnum} or above"),
         ),
         By::Realtime(realtime) => (
-            Vec::from_iter(found(file, &image, raw::by_realtime(&image, *realtime))?),
+            Vec::from_iter(found(
+                file,
+                &image,
+                wrapper::by_realtime(&image, *realtime),
+            )?),
             format!("at {} ({realtime}) or later", times::shown(*realtime)),
         ),
         By::Payload(payload) => (
-            pages::entries_holding(&image, payload)
-                .map_err(|number| Fault::refused(file, number))?,
+            wrapper::all_matches(&image, payload)
+                .map_err(|refusal| Fault::refused(file, refusal))?,
             format!("with {}", shown(payload)),
         ),
     };
@@ -54,7 +57,8 @@ pub fn find(file: &Path, by: &By, out: &mut impl Write) -> Result<(), Fault> {
 
 pub fn values(file: &Path, name: &[u8], out: &mut impl Write) -> Result<(), Fault> {
     let image = files::read(file)?;
-    let payloads = pages::payloads(&image, name).map_err(|number| Fault::refused(file, number))?;
+    let payloads =
+        wrapper::all_values(&image, name).map_err(|refusal| Fault::refused(file, refusal))?;
     if payloads.is_empty() {
         let words = format!("no entry with a field {}", shown(name));
         return Err(Fault::of(file, words));
@@ -68,22 +72,21 @@ pub fn values(file: &Path, name: &[u8], out: &mut impl Write) -> Result<(), Faul
 
 pub fn check(file: &Path, out: &mut impl Write) -> Result<(), Fault> {
     let image = files::read(file)?;
-    let entries = pages::entries(&image).map_err(|number| Fault::refused(file, number))?;
+    let entries = wrapper::all_entries(&image).map_err(|refusal| Fault::refused(file, refusal))?;
     let count = counted(entries.len(), "entry", "entries");
     writeln!(out, "opens, {count}").map_err(Fault::answer)
 }
 
-/// The entry that a lookup answers by its offset; 0 is none, and a number below 256 a refusal.
-fn found<'a>(file: &Path, image: &'a [u8], answer: u64) -> Result<Option<Entry<'a>>, Fault> {
-    match answer {
-        0 => Ok(None),
-        1..256 => Err(Fault::refused(file, answer)),
-        _ => {
-            let mut all = pages::entries(image).map_err(|number| Fault::refused(file, number))?;
-            Ok(all
-                .iter()
-                .position(|entry| entry.offset == answer)
-                .map(|place| all.swap_remove(place)))
-        }
-    }
+/// The entry that a lookup answers by its offset.
+fn found<'a>(
+    file: &Path,
+    image: &'a [u8],
+    answer: Result<Option<Offset>, Refusal>,
+) -> Result<Option<Entry<'a>>, Fault> {
+    let refused = |refusal| Fault::refused(file, refusal);
+    let Some(offset) = answer.map_err(refused)? else {
+        return Ok(None);
+    };
+    let all = wrapper::all_entries(image).map_err(refused)?;
+    Ok(all.into_iter().find(|entry| entry.offset == offset))
 }

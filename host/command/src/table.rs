@@ -1,8 +1,8 @@
 //! Entries in columns, and one entry in full.
-use crate::pages::Entry;
 use crate::text::shown;
 use crate::{ids, times};
 use std::io::{Result, Write};
+use wrapper::Entry;
 
 /// The part of a payload behind the first `=`.
 pub fn value(payload: &[u8]) -> &[u8] {

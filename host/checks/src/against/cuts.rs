@@ -4,7 +4,7 @@
 use std::collections::BTreeSet;
 
 use super::lookups::{archive, read, read_stamps, Words};
-use super::plan::Append;
+use super::plan::{number, Append};
 use crate::generator::questions::Arguments;
 use reading::ask::Question;
 use reading::carry::{carry_out, stores};
@@ -12,7 +12,8 @@ use reading::image::le64;
 use reading::layout::header;
 use reading::lookup::{open, Journal};
 use reading::request::{distinct, unpacked, Request};
-use wrapper::raw::{self, Planned, Stamps};
+use wrapper::raw::{self, Stamps};
+use wrapper::Planned;
 
 /// An append that was taken, cut everywhere and carried out.
 pub struct Cut {
@@ -98,7 +99,7 @@ pub fn cuts(
     let append = Append::new(image, request);
     let Some(need) = append.need() else {
         let (planned, _) = append.put(160, tried)?;
-        return Ok(Err(planned.refusal()));
+        return Ok(Err(number(&planned)));
     };
     let (planned, list) = append.put(16 * need, tried)?;
     let count = need as u64;

@@ -1,7 +1,7 @@
 //! What a disk may hold where a host syncs as `groups::syncs` has it and no more often: all stores up to
 //! one sync, and of those up to the next one any, in any order.
 use super::cuts::{all, questions, said};
-use super::plan::Append;
+use super::plan::{number, Append};
 use crate::generator::dice::{shuffle, some_of};
 use crate::random::Random;
 use reading::lookup::open;
@@ -22,8 +22,8 @@ pub fn orders(
     let append = Append::new(image, request);
     let need = append.need().unwrap_or(10);
     let (planned, list) = append.put(16 * need, random.word() >> 8)?;
-    if planned.refusal() != 0 {
-        return Ok(Err(planned.refusal()));
+    if planned.refusal().is_some() {
+        return Ok(Err(number(&planned)));
     }
     let ends = groups(&list);
     let read = plan::groups(image, &request).expect("taken");

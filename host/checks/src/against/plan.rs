@@ -6,7 +6,7 @@ use reading::carry::{stores, Store};
 use reading::plan::{plan, write};
 use reading::refusal::Clause;
 use reading::request::Request;
-use wrapper::raw::{self, Planned};
+use wrapper::{Planned, Refusal};
 
 /// An append, with what the reading says of it.
 pub struct Append<'a> {
@@ -43,14 +43,14 @@ impl<'a> Append<'a> {
             19 => Planned::TooShort {
                 need: answer.stores,
             },
-            number => Planned::Refused(number),
+            number => Planned::Refused(Refusal::new(number).expect("it is not 0")),
         };
         let mut image = Lent::new(self.image, tried);
         let mut fields = Lent::new(self.request.fields, tried / 2);
         let mut machine = Lent::new(&self.request.machine_id, tried / 3);
         let mut boot = Lent::new(&self.request.boot_id, tried / 5);
         let mut list = Lent::new(&before, tried / 7);
-        let request = raw::Request {
+        let request = wrapper::Request {
             machine: machine.bytes().try_into().expect("16 bytes"),
             boot: boot.bytes().try_into().expect("16 bytes"),
             seqnum: self.request.seqnum,
@@ -58,7 +58,7 @@ impl<'a> Append<'a> {
             monotonic: self.request.monotonic,
             fields: fields.bytes(),
         };
-        let planned = raw::plan(image.bytes(), &request, list.bytes_mut());
+        let planned = wrapper::plan(image.bytes(), &request, list.bytes_mut());
         if planned != expected {
             let why = self.read.as_ref().err();
             return Err(format!(
@@ -94,6 +94,11 @@ impl<'a> Append<'a> {
         self.put(0, tried + 4)?;
         self.put(enough, tried).map(|(planned, _)| planned)
     }
+}
+
+/// The number of a refusal; 0 for an append that is taken.
+pub fn number(planned: &Planned) -> u64 {
+    planned.refusal().map_or(0, Refusal::number)
 }
 
 /// Where two lists differ: the store, or a byte behind the stores.

@@ -3,7 +3,8 @@
 //! `.. -- plan 1000000` works out so many appends, and `.. -- cuts 1000` cuts so many appends
 //! everywhere and asks every lookup each time. A second number is the first seed. It ends with status 1 at
 //! the first difference, and leaves the image in a file.
-use checks::against::{cuts, plan::Append};
+use checks::against::cuts;
+use checks::against::plan::{number, Append};
 use checks::generator::{any::any, appends};
 use checks::random::Random;
 use reading::refusal::refusal;
@@ -72,7 +73,7 @@ fn plan(random: &mut Random) -> Compared {
     append
         .put_all(tried)
         .and_then(|_| append.put(case.list, tried))
-        .map(|(planned, _)| planned.refusal())
+        .map(|(planned, _)| number(&planned))
         .map_err(|difference| (format!("{difference}, of {:?}", case.asked), case.image))
 }
 

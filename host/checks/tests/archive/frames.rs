@@ -8,7 +8,7 @@ use checks::generator::{damage, good, grown};
 use checks::random::Random;
 use reading::image::{le64, Image};
 use reading::layout::{header, kind, MOST_BYTES};
-use wrapper::raw::framed;
+use wrapper::framed::framed;
 
 fn tried() -> Tried {
     Tried::new(framed, 7)

@@ -10,12 +10,13 @@ use checks::generator::{damage, good, grown};
 use checks::random::Random;
 use reading::layout::{header, kind, MOST_BYTES};
 use reading::new_file::{new_file, NewFile};
+use wrapper::framed::framed;
 use wrapper::raw;
 
 /// The frame alone gives the same answer up to 7.
 fn both(image: &[u8]) -> u64 {
     let answer = raw::open(image);
-    assert_eq!(raw::framed(image), if answer <= 7 { answer } else { 0 });
+    assert_eq!(framed(image), if answer <= 7 { answer } else { 0 });
     answer
 }
 

@@ -4,7 +4,6 @@ use checks::generator::frame::set;
 use checks::random::Random;
 use reading::image::{id, le64};
 use reading::layout::header;
-use wrapper::raw;
 
 use crate::check::{check, shown};
 use crate::entries::logged;
@@ -29,7 +28,9 @@ fn files_of_journald() {
         check(&image, before.len());
 
         let (last, _) = before.last().expect("journald logged something");
-        let last = raw::stamps(&image, *last);
+        let last = wrapper::stamps(&image, *last)
+            .expect("it opens")
+            .expect("an entry");
         let boot = id(&image, header::BOOT_ID);
         let random = &mut Random::new(1);
         for n in 1..=60 {

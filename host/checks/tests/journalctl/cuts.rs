@@ -2,7 +2,6 @@
 //! also the new one.
 use checks::random::Random;
 use wrapper::groups::groups;
-use wrapper::raw;
 
 use crate::check::{exported, shown};
 use crate::entries::{grown, logged};
@@ -30,7 +29,7 @@ fn every_cut() {
         let [_, objects, .., commit, count] = groups(&list);
         for k in 0..=count {
             let mut cut = image.clone();
-            assert_eq!(raw::carry_out(&mut cut, &list, k as u64), 0);
+            assert_eq!(wrapper::carry_out(&mut cut, &list, k as u64), Ok(()));
             let file = File::new(&cut);
             let expected = if k < commit { &old } else { &new };
             assert!(exported(&file, &[]) == *expected, "{k} of {count} stores");

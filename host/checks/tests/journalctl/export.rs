@@ -3,7 +3,7 @@ use std::fmt::Write;
 
 use reading::image::id;
 use reading::layout::header;
-use wrapper::raw;
+use wrapper::Offset;
 
 /// The lines before the fields, and the payloads of the fields in their order.
 #[derive(Clone, Debug, PartialEq, Eq)]
@@ -23,25 +23,21 @@ fn hex(id: [u8; 16]) -> String {
     })
 }
 
-/// The bytes of a part.
-pub fn bytes(image: &[u8], part: raw::Part) -> &[u8] {
-    &image[part.at as usize..(part.at + part.len) as usize]
-}
-
 /// The entry at an offset, by the archive's lookups. A cursor has the sequence number's id, the
 /// sequence number, the boot's id, both times and xor_hash.
-pub fn looked_up(image: &[u8], offset: u64) -> Entry {
-    let stamps = raw::stamps(image, offset);
-    let items = (0..stamps.items).map(|place| bytes(image, raw::item(image, offset, place)));
+pub fn looked_up(image: &[u8], offset: Offset) -> Entry {
+    let stamps = wrapper::stamps(image, offset).expect("it opens");
+    let stamps = stamps.expect("it is committed");
+    let items = (0..stamps.items).map(|place| wrapper::item(image, offset, place));
+    let items = items.map(|item| item.expect("it has so many"));
     let mut payloads: Vec<Vec<u8>> = items.map(<[u8]>::to_vec).collect();
-    let hashes = payloads.iter().map(|it| raw::hash_lookup3(it));
+    let hashes = payloads.iter().map(|it| wrapper::hash_lookup3(it));
     let xor_hash = hashes.fold(0, |xor, hash| xor ^ hash);
     payloads.retain(|it| !it.starts_with(BOOT_ID));
 
-    let boot_id = [stamps.boot_low, stamps.boot_high].map(u64::to_le_bytes);
-    let boot_id = hex(boot_id.concat()[..].try_into().expect("16 bytes"));
+    let boot_id = hex(stamps.boot_id);
     let seqnum_id = hex(id(image, header::SEQNUM_ID));
-    let raw::Stamps {
+    let wrapper::Stamps {
         seqnum,
         realtime,
         monotonic,

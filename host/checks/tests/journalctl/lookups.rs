@@ -2,18 +2,18 @@
 //! wrote: entries that hold a payload, the values of a field, the field names, entries from a wall time
 //! on, entries from a cursor on.
 use checks::random::Random;
-use wrapper::raw;
+use wrapper::Offset;
 
 use crate::check::{exported, shown};
 use crate::entries::{grown, CELLS};
-use crate::export::{bytes, Entry};
+use crate::export::Entry;
 use crate::file::File;
 use crate::written::nth;
 
 struct Both {
     image: Vec<u8>,
     file: File,
-    shown: Vec<(u64, Entry)>,
+    shown: Vec<(Offset, Entry)>,
 }
 
 impl Both {
@@ -26,7 +26,7 @@ impl Both {
     }
 
     /// journalctl shows these entries and no other; their number.
-    fn same(&self, argument: &str, is_shown: impl Fn(u64) -> bool) -> usize {
+    fn same(&self, argument: &str, is_shown: impl Fn(Offset) -> bool) -> usize {
         let entries = self.shown.iter().filter(|(offset, _)| is_shown(*offset));
         let entries: Vec<&Entry> = entries.map(|(_, entry)| entry).collect();
         let exported = exported(&self.file, &[argument]);
@@ -36,17 +36,17 @@ impl Both {
 
     /// `NAME=value`: the committed entries that hold it.
     fn held(&self, payload: &str) -> usize {
-        let place = |place| raw::by_payload(&self.image, payload.as_bytes(), place);
-        let entries: Vec<u64> = (0..).map(place).take_while(|&entry| entry != 0).collect();
+        let place = |place| wrapper::by_payload(&self.image, payload.as_bytes(), place);
+        let entries: Vec<Offset> = (0..).map_while(|at| place(at).expect("it opens")).collect();
         self.same(payload, |offset| entries.contains(&offset))
     }
 
     /// `--field=NAME`: its values, by falling DATA offset.
     fn values(&self, name: &str) -> usize {
-        let part = |place| raw::value(&self.image, name.as_bytes(), place);
-        let parts = (0..).map(part).take_while(|part| part.len > 0);
-        let value = |part| &bytes(&self.image, part)[name.len() + 1..];
-        let lines: Vec<_> = parts.map(|part| [value(part), b"\n"].concat()).collect();
+        let payloads = (0..).map_while(|at| wrapper::value(&self.image, name.as_bytes(), at));
+        let lines: Vec<_> = payloads
+            .map(|payload| [&payload[name.len() + 1..], b"\n"].concat())
+            .collect();
         let printed = self.file.prints(&[&format!("--field={name}")]);
         assert!(printed == lines.concat(), "{name}");
         lines.len()
@@ -54,15 +54,18 @@ impl Both {
 
     /// `--since=`: the entries from the first with a wall time at or above one on.
     fn since(&self, realtime: u64) -> usize {
-        let first = raw::by_realtime(&self.image, realtime);
+        let first = wrapper::by_realtime(&self.image, realtime).expect("it opens");
         let (seconds, micros) = (realtime / 1_000_000, realtime % 1_000_000);
         let argument = format!("--since=@{seconds}.{micros:06}");
-        self.same(&argument, |offset| first != 0 && offset >= first)
+        self.same(&argument, |offset| {
+            first.is_some_and(|first| offset >= first)
+        })
     }
 
     /// `--cursor=`: the entries from the one with a sequence number on.
     fn from_cursor(&self, seqnum: u64) -> usize {
-        let first = raw::by_seqnum(&self.image, seqnum);
+        let first = wrapper::by_seqnum(&self.image, seqnum).expect("it opens");
+        let first = first.expect("an entry");
         let mut entries = self.shown.iter();
         let (_, entry) = entries
             .find(|(offset, _)| *offset == first)

@@ -1,6 +1,6 @@
 //! A file of the archive alone.
 use reading::request::packed;
-use wrapper::raw::{self, Planned, Request};
+use wrapper::{plan, Planned, Request};
 
 const MACHINE: [u8; 16] = [2; 16];
 /// More than any of the appends here needs.
@@ -30,7 +30,8 @@ pub fn new(length: usize, cells: (u64, u64), keyed: u64) -> Vec<u8> {
     let ids = [[1; 16], MACHINE, [3; 16], [4; 16]].concat();
     let ids = ids[..].try_into().expect("64 bytes");
     let mut image = vec![0; length];
-    assert_eq!(raw::new(&mut image, ids, cells.0, cells.1, keyed), 0);
+    let made = wrapper::new(&mut image, ids, cells.0, cells.1, keyed == 1);
+    assert_eq!(made, Ok(()));
     image
 }
 
@@ -51,7 +52,7 @@ pub fn planned_of(machine: [u8; 16], image: &[u8], at: At, payloads: &[Vec<u8>])
         fields: &packed(&payloads),
     };
     let mut list = vec![0; MOST_STORES * 16];
-    let Planned::Stores { count } = raw::plan(image, &request, &mut list) else {
+    let Planned::Stores { count } = plan(image, &request, &mut list) else {
         panic!("the append is taken");
     };
     list.truncate(count as usize * 16);
@@ -66,5 +67,6 @@ pub fn append(image: &mut [u8], at: At, payloads: &[Vec<u8>]) {
 
 /// Carries out all stores of a list.
 pub fn carry_out(image: &mut [u8], list: &[u8]) {
-    assert_eq!(raw::carry_out(image, list, list.len() as u64 / 16), 0);
+    let stores = list.len() as u64 / 16;
+    assert_eq!(wrapper::carry_out(image, list, stores), Ok(()));
 }

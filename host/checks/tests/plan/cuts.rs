@@ -2,14 +2,14 @@
 //! lookup answers as before the append, or from the commit store on as behind it.
 use checks::against::cuts::{cuts, Cut};
 use checks::against::orders::orders;
-use checks::against::plan::Append;
+use checks::against::plan::{number, Append};
 use checks::generator::worked::{first, request, second, LAST};
 use checks::generator::{appends, grown, requests};
 use checks::random::Random;
 use reading::layout::header;
 use reading::request::Request;
+use wrapper::carry_out;
 use wrapper::groups::groups;
-use wrapper::raw::carry_out;
 
 use crate::made::made;
 
@@ -77,7 +77,7 @@ fn another_append_after_a_cut() {
     let ends = groups(&list);
     for k in 0..=72 {
         let mut image = image.clone();
-        assert_eq!(carry_out(&mut image, &list, k as u64), 0);
+        assert_eq!(carry_out(&mut image, &list, k as u64), Ok(()));
         let next = request(&fields, 6, 0, 0);
         let number = if k == 0 || k == 72 { 0 } else { 13 };
         assert_eq!(put(&image, next, 72).0, number, "a cut at {k}");
@@ -92,7 +92,7 @@ fn put(image: &[u8], request: Request, stores: usize) -> (u64, Vec<u8>) {
     let (planned, list) = Append::new(image, request)
         .put(16 * stores, stores as u64)
         .unwrap_or_else(|difference| panic!("{difference}"));
-    (planned.refusal(), list)
+    (number(&planned), list)
 }
 
 /// Appends of every kind that is taken; each question is asked at some of the cuts.

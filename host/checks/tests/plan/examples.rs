@@ -4,7 +4,7 @@ use checks::generator::frame::set;
 use checks::generator::worked::{first, request, second, LAST};
 use reading::layout::header;
 use reading::request::packed;
-use wrapper::raw::{entry, open, stamps, Planned};
+use wrapper::{entry, open, stamps, Planned};
 
 use crate::made::{made, Tried};
 
@@ -23,7 +23,7 @@ fn two_appends() {
         assert_eq!(words, (320..736).step_by(8).collect::<Vec<u64>>());
         let kinds = [(320, 1), (408, 2), (456, 1), (536, 2), (584, 3), (680, 6)];
         assert!(kinds.iter().all(|kind| stores.contains(kind)));
-        assert_eq!(open(&image), 0);
+        assert_eq!(open(&image), Ok(()));
 
         let fields = second();
         let next = |seqnum: u64| request(&fields, seqnum, 1700000000000001, 60);
@@ -36,11 +36,11 @@ fn two_appends() {
         assert_eq!(stores[31], (header::N_ENTRIES, 2));
 
         // What the listing shows.
-        let lines: Vec<[u64; 4]> = [entry(&image, 0), entry(&image, 1)]
-            .into_iter()
-            .map(|at| stamps(&image, at))
-            .map(|it| [it.seqnum, it.realtime, it.monotonic, it.items])
-            .collect();
+        let lines = [0, 1].map(|place| {
+            let at = entry(&image, place).expect("it opens").expect("an entry");
+            let it = stamps(&image, at).expect("it opens").expect("an entry");
+            [it.seqnum, it.realtime, it.monotonic, it.items]
+        });
         assert_eq!(
             lines,
             [
@@ -48,7 +48,7 @@ fn two_appends() {
                 [9223372036854775808, 1700000000000001, 60, 1]
             ]
         );
-        assert_eq!(entry(&image, 2), 0);
+        assert_eq!(entry(&image, 2), Ok(None));
     }
 }
 

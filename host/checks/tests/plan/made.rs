@@ -1,8 +1,8 @@
 //! Files made, planned on and written by the archive, and how often it was asked.
-use checks::against::plan::Append;
+use checks::against::plan::{number, Append};
 use checks::random::Random;
 use reading::request::{packed, Request};
-use wrapper::raw::{carry_out, new, Planned};
+use wrapper::{carry_out, new, Planned};
 
 /// The machine's and the boot's id in `request` of the worked examples.
 pub const MACHINE: [u8; 16] = [2; 16];
@@ -14,8 +14,8 @@ pub fn made(length: usize, cells: (u64, u64), keyed: bool) -> Vec<u8> {
     let mut image = Random::new(length as u64).bytes(length);
     let ids = ids[..].try_into().expect("64 bytes");
     assert_eq!(
-        new(&mut image, ids, cells.0, cells.1, u64::from(keyed)),
-        0,
+        new(&mut image, ids, cells.0, cells.1, keyed),
+        Ok(()),
         "a new file of {length} bytes"
     );
     image
@@ -32,7 +32,7 @@ pub struct Tried(pub [u64; 20]);
 
 impl Tried {
     fn count(&mut self, planned: Planned) -> u64 {
-        let number = planned.refusal();
+        let number = number(&planned);
         self.0[number as usize] += 1;
         number
     }
@@ -66,7 +66,7 @@ impl Tried {
         let need = append.need().expect("it is taken");
         let (number, list) = self.with_list(&append, 16 * need);
         assert_eq!(number, 0);
-        assert_eq!(carry_out(image, &list, need as u64), 0);
+        assert_eq!(carry_out(image, &list, need as u64), Ok(()));
         let word = |at: usize| u64::from_le_bytes(list[at..at + 8].try_into().expect("8 bytes"));
         (0..need)
             .map(|n| (word(16 * n), word(16 * n + 8)))

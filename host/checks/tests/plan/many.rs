@@ -10,7 +10,7 @@ use reading::layout::header;
 use reading::refusal::refusal;
 use reading::request::{distinct, unpacked, Request};
 use reading::room::{places, Placed, Slot};
-use wrapper::raw::{self, carry_out, plan, Planned};
+use wrapper::{carry_out, plan, Planned};
 
 use crate::made::{fields, made, Tried, BOOT, MACHINE};
 
@@ -150,7 +150,7 @@ fn files_that_grow() {
             };
             let (number, list) = tried.with_list(&append, 16 * need + random.below(40));
             assert_eq!(number, 0);
-            assert_eq!(carry_out(&mut image, &list, need as u64), 0);
+            assert_eq!(carry_out(&mut image, &list, need as u64), Ok(()));
             appends += 1;
         }
     }
@@ -177,7 +177,7 @@ fn a_file_of_many_entries() {
             if n % 40 == 0 {
                 assert_eq!(tried.append(&image, request(&fields, n, n, n)), 0);
             }
-            let ask = raw::Request {
+            let ask = wrapper::Request {
                 machine: &MACHINE,
                 boot: &BOOT,
                 seqnum: n,
@@ -188,7 +188,7 @@ fn a_file_of_many_entries() {
             let Planned::Stores { count } = plan(&image, &ask, &mut list) else {
                 panic!("the append is taken");
             };
-            assert_eq!(carry_out(&mut image, &list, count), 0);
+            assert_eq!(carry_out(&mut image, &list, count), Ok(()));
         }
         assert_eq!(refusal(&image), 0);
         assert_eq!(le64(&image, header::N_ENTRIES), 400);
