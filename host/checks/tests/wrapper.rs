@@ -81,7 +81,12 @@ fn same_lookups(image: &[u8], step: usize) {
                 let boot_id = [is.boot_low, is.boot_high].map(u64::to_le_bytes).concat();
                 assert_eq!(stamps.boot_id[..], boot_id);
                 assert_eq!(
-                    (stamps.seqnum, stamps.realtime, stamps.monotonic, stamps.items),
+                    (
+                        stamps.seqnum,
+                        stamps.realtime,
+                        stamps.monotonic,
+                        stamps.items
+                    ),
                     (is.seqnum, is.realtime, is.monotonic, is.items)
                 );
                 assert!(stamps.items > 0);
@@ -112,7 +117,12 @@ fn same_pages(image: &[u8]) {
         let stamps = wrapper::stamps(image, entry.offset).expect("it opens");
         let stamps = stamps.expect("it is committed");
         assert_eq!(
-            (stamps.seqnum, stamps.realtime, stamps.monotonic, stamps.boot_id),
+            (
+                stamps.seqnum,
+                stamps.realtime,
+                stamps.monotonic,
+                stamps.boot_id
+            ),
             (entry.seqnum, entry.realtime, entry.monotonic, entry.boot_id)
         );
         let items = (0..stamps.items).map(|place| wrapper::item(image, entry.offset, place));
@@ -120,7 +130,9 @@ fn same_pages(image: &[u8]) {
     }
     assert_eq!(wrapper::entry(image, entries.len() as u64), Ok(None));
     for payload in entries.iter().flat_map(|entry| &entry.payloads).take(20) {
-        let holding = entries.iter().filter(|entry| entry.payloads.contains(payload));
+        let holding = entries
+            .iter()
+            .filter(|entry| entry.payloads.contains(payload));
         let matches = wrapper::all_matches(image, payload).expect("it opens");
         assert!(matches.iter().eq(holding));
         let name = payload.split(|&byte| byte == b'=').next().expect("a name");
@@ -139,7 +151,10 @@ fn answers() {
     }
     for (name, number) in FILES {
         let image = corpus::image(name);
-        assert_eq!(wrapper::open(&image), Refusal::new(number).map_or(Ok(()), Err));
+        assert_eq!(
+            wrapper::open(&image),
+            Refusal::new(number).map_or(Ok(()), Err)
+        );
         same_lookups(&image, 97);
         same_pages(&image);
     }
@@ -173,7 +188,10 @@ fn words() {
         let line = format!("{sentence} (refusal {number}: {row})");
         assert_eq!(refusal.to_string(), line);
         assert!(sentence.len() > 20 && row.len() > 10, "{line}");
-        assert!(!line.contains(|it: char| it.is_control() || !it.is_ascii()), "{line}");
+        assert!(
+            !line.contains(|it: char| it.is_control() || !it.is_ascii()),
+            "{line}"
+        );
         let mut others = all.iter().filter(|other| *other != refusal);
         assert!(others.all(|other| other.sentence() != sentence && other.row() != row));
     }

@@ -42,8 +42,7 @@ pub fn append(path: &Path, wish: &Wish, out: &mut impl Write) -> Result<(), Faul
         monotonic: wish.monotonic.map_or_else(monotonic, Ok)?,
         fields: &fields,
     };
-    let list = planned(&image, &request)
-        .map_err(|refusal| explained(Fault::refused(path, refusal), refusal, &image, last))?;
+    let list = planned(&image, &request).map_err(|refusal| refused(path, refusal, &image, last))?;
 
     // From here on the file is written. Its blocks come first: a store to a mapped hole on a full
     // disk would end the program in the midst of the append.
@@ -122,20 +121,19 @@ fn carried_out(path: &Path, mapped: &mut Mapped, list: &[u8]) -> Result<u64, Fau
     Ok(count)
 }
 
-/// What helps with a refusal of an append.
-fn explained(mut fault: Fault, refusal: Refusal, image: &[u8], last: Option<&Entry>) -> Fault {
-    let more = match (refusal.number(), last) {
-        (13, _) => "it is in use, or an append was cut off: it can be read, a new file appended to"
-            .to_string(),
+/// A refusal of an append, with what the file has to be compared with where that helps.
+fn refused(path: &Path, refusal: Refusal, image: &[u8], last: Option<&Entry>) -> Fault {
+    match (refusal.number(), last) {
         (15, _) => {
-            format!("the file's is {}", ids::shown(&ids::machine_of(image)))
+            let machine = ids::shown(&ids::machine_of(image));
+            Fault::explained(path, refusal, &format!("its machine id is {machine}"))
         }
-        (17, Some(last)) => format!("the last entry is {} at {}", last.seqnum, last.realtime),
-        (18, _) => "the file is full: make a new one".to_string(),
-        _ => return fault,
-    };
-    fault.words += &format!(" ({more})");
-    fault
+        (17, Some(last)) => {
+            let last = format!("the last entry is {} at {}", last.seqnum, last.realtime);
+            Fault::explained(path, refusal, &last)
+        }
+        _ => Fault::refused(path, refusal),
+    }
 }
 
 fn now() -> Result<u64, Fault> {

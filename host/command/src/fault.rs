@@ -31,8 +31,13 @@ impl Fault {
 
     /// The library refuses.
     pub fn refused(file: &Path, refusal: Refusal) -> Fault {
-        let (number, row) = (refusal.number(), refusal.row());
-        Fault::of(file, format!("refused {number}: {row}"))
+        Fault::of(file, refusal.to_string())
+    }
+
+    /// The same, with the reason in this file.
+    pub fn explained(file: &Path, refusal: Refusal, why: &str) -> Fault {
+        let (sentence, rule) = (refusal.sentence(), refusal.rule());
+        Fault::of(file, format!("{sentence}; {why} ({rule})"))
     }
 
     /// The system refuses.

@@ -32,6 +32,11 @@ impl Refusal {
         self.words().1
     }
 
+    /// The number and the row.
+    pub fn rule(self) -> String {
+        format!("refusal {}: {}", self.number(), self.row())
+    }
+
     fn words(self) -> (&'static str, &'static str) {
         let unknown = ("refused", "a number that the rules do not have");
         let words = ROWS.get(self.number() as usize - 1);
@@ -42,8 +47,7 @@ impl Refusal {
 /// The sentence, and then the number with its row.
 impl Display for Refusal {
     fn fmt(&self, to: &mut Formatter) -> std::fmt::Result {
-        let (number, row) = (self.number(), self.row());
-        write!(to, "{} (refusal {number}: {row})", self.sentence())
+        write!(to, "{} ({})", self.sentence(), self.rule())
     }
 }
 

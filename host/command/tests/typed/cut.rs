@@ -77,8 +77,10 @@ fn ended_at_every_sync() {
             6 => drop(append(&path, 4, &["A=1"]).done()),
             _ => {
                 let words = append(&path, 4, &["A=1"]).failed_with(&path);
-                let start = "refused 13: state not 0 (offline) (it is in use, or an append was cut";
-                assert!(words.starts_with(start), "{words}");
+                let expected =
+                    "the file is in use, or an append to it was cut off: it can be read, \
+                                append to a new file (refusal 13: state not 0 (offline))";
+                assert_eq!(words, expected);
                 assert!(bytes(&path) == *cut);
             }
         }

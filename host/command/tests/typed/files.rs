@@ -35,13 +35,18 @@ fn what_is_no_file() {
 fn lengths() {
     let folder = folder("lengths");
     let empty = file(&folder, "empty.journal", b"");
-    assert_eq!(all_say(&empty), "refused 1: fewer than 256 bytes");
+    let short = "this is no journal, or only the start of one: it is shorter than a journal's \
+                 header (refusal 1: fewer than 256 bytes)";
+    assert_eq!(all_say(&empty), short);
     let zeros = file(&folder, "zeros.journal", &[0; 256]);
-    assert_eq!(all_say(&zeros), "refused 3: signature differs");
+    let other = "this is no journal: its first bytes are not those of one \
+                 (refusal 3: signature differs)";
+    assert_eq!(all_say(&zeros), other);
 
     let longest = made(&folder, "longest.journal", &MOST_BYTES.to_string());
     assert_eq!(asked("check", &longest).done(), "opens, 0 entries\n");
-    let longer = "refused 2: more than 8,388,608 bytes";
+    let longer = "the file is too long: at most 8 MiB are taken here \
+                  (refusal 2: more than 8,388,608 bytes)";
     let too_long = |length: u64| {
         let file = File::options().write(true).open(&longest);
         file.and_then(|file| file.set_len(length))

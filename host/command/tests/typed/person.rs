@@ -53,12 +53,15 @@ impl Said {
         words.unwrap_or_else(|| panic!("{line}")).to_string()
     }
 
-    /// The number that the library refused a file with; there are words behind it.
+    /// The number that the library refused a file with: it comes after a sentence for a person,
+    /// and before the condition in the words of the rules.
     pub fn refused(self, file: &Path) -> u64 {
-        let words = self.failed_with(file);
-        let words = words.strip_prefix("refused ").expect("a refusal");
-        let (number, condition) = words.split_once(": ").expect("a number, and words");
-        assert!(condition.len() > 10, "{condition}");
+        let line = self.failed_with(file);
+        let (sentence, rule) = line.split_once(" (refusal ").expect("a sentence first");
+        assert!(sentence.len() > 20, "{line}");
+        let rule = rule.strip_suffix(')').expect("the rule is last");
+        let (number, condition) = rule.split_once(": ").expect("a number, and words");
+        assert!(condition.len() > 10, "{line}");
         number.parse().expect("a number")
     }
 }

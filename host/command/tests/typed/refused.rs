@@ -48,15 +48,19 @@ fn damaged_files() {
 }
 
 #[test]
-fn the_words_of_the_table() {
+fn a_sentence_and_then_the_rule() {
     let path = corpus::path("trixie-k1-c1-system");
     let words = asked("check", &path).failed_with(&path);
-    assert_eq!(words, "refused 4: an incompatible bit other than bit 2");
+    let expected = "the file has a form that is not read here, such as compressed or compact: use \
+                    journalctl for it (refusal 4: an incompatible bit other than bit 2)";
+    assert_eq!(words, expected);
     let path = corpus::path("trixie-k1-c0-system");
     let words = asked("check", &path).failed_with(&path);
-    let condition =
-        "header_size not 256, arena_size not a multiple of 8, or their sum above the image length";
-    assert_eq!(words, format!("refused 5: {condition}"));
+    let expected =
+        "the file's header does not fit it: its end is missing, or a newer systemd wrote \
+                    it (use journalctl for such files) (refusal 5: header_size not 256, arena_size \
+                    not a multiple of 8, or their sum above the image length)";
+    assert_eq!(words, expected);
 }
 
 /// Of files of journald: those that do not open, and what an append to the others is refused by.
@@ -81,7 +85,7 @@ fn real_files() {
     }
 }
 
-/// 14 to 18, and what is said besides the table's words.
+/// 14 to 18, and what is said of the file itself.
 #[test]
 fn appends() {
     let folder = folder("refused-appends");
@@ -101,7 +105,10 @@ fn appends() {
 
     let words = ["--machine", "ffffffffffffffffffffffffffffffff", "A=1"];
     let said = typed("append", &path, &words).failed_with(&path);
-    let expected = format!("refused 15: machine id differs (the file's is {MACHINE})");
+    let expected = format!(
+        "the file belongs to another machine: append to it there, or to a file of this machine; its \
+         machine id is {MACHINE} (refusal 15: machine id differs)"
+    );
     assert_eq!(said, expected);
 
     let long = format!("A={}", "x".repeat(4_095));
@@ -122,11 +129,10 @@ fn appends() {
 
     assert_eq!(append(&path, 0, &["A=1"]).refused(&path), 17);
     let said = append(&path, 5, &["A=1"]).failed_with(&path);
-    assert!(said.starts_with("refused 17: seqnum 0; or "), "{said}");
-    assert!(
-        said.ends_with(" (the last entry is 5 at 1700000000000005)"),
-        "{said}"
-    );
+    let start = "the entry would not come after the last one: give a higher sequence number, and \
+                 times that are not earlier; the last entry is 5 at 1700000000000005 (refusal 17: \
+                 seqnum 0; or ";
+    assert!(said.starts_with(start), "{said}");
     for name in ["--time", "--monotonic"] {
         let mut words = options(6);
         let place = words
@@ -139,8 +145,8 @@ fn appends() {
     }
 
     let said = append(&path, 6, &[&long[..4_000]]).failed_with(&path);
-    let expected = "refused 18: the new objects pass the arena's end \
-                    (the file is full: make a new one)";
+    let expected = "the file is full: make a new one \
+                    (refusal 18: the new objects pass the arena's end)";
     assert_eq!(said, expected);
     assert_eq!(bytes(&path), before);
 }
