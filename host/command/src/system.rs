@@ -1,14 +1,39 @@
 //! What the system offers and the standard library does not: mapped files, blocks for a file, local
 //! time, the monotonic clock and signals. The functions of the C library are declared by hand, as on
 //! Linux on x86-64, and this file has all of the program's `unsafe`.
-use std::ffi::{c_char, c_int, c_long, c_void};
+use raw::{Local, Timespec};
+use std::ffi::c_void;
 use std::fs::File;
 use std::io::{Error, Result};
 use std::os::fd::AsRawFd;
 use std::ptr::{null, null_mut};
 
 mod raw {
-    use super::*;
+    use std::ffi::{c_char, c_int, c_long, c_void};
+
+    /// `struct tm`. Months count from 0 and years from 1900; `east` are the seconds that local time is
+    /// ahead of UTC.
+    #[repr(C)]
+    pub struct Local {
+        pub second: c_int,
+        pub minute: c_int,
+        pub hour: c_int,
+        pub day: c_int,
+        pub month: c_int,
+        pub year: c_int,
+        pub weekday: c_int,
+        pub day_of_year: c_int,
+        pub summer: c_int,
+        pub east: c_long,
+        pub zone: *const c_char,
+    }
+
+    /// `struct timespec`.
+    #[repr(C)]
+    pub struct Timespec {
+        pub seconds: i64,
+        pub nanoseconds: c_long,
+    }
 
     extern "C" {
         pub fn mmap(
@@ -35,30 +60,6 @@ mod raw {
     pub const SIGXFSZ: c_int = 25;
     pub const SIG_DFL: usize = 0;
     pub const SIG_IGN: usize = 1;
-}
-
-/// `struct tm`. Months count from 0 and years from 1900; `east` are the seconds that local time is
-/// ahead of UTC.
-#[repr(C)]
-pub struct Local {
-    pub second: c_int,
-    pub minute: c_int,
-    pub hour: c_int,
-    pub day: c_int,
-    pub month: c_int,
-    pub year: c_int,
-    weekday: c_int,
-    day_of_year: c_int,
-    summer: c_int,
-    pub east: c_long,
-    zone: *const c_char,
-}
-
-/// `struct timespec`.
-#[repr(C)]
-struct Timespec {
-    seconds: i64,
-    nanoseconds: c_long,
 }
 
 /// A write to a pipe that nobody reads ends the program at once and quietly, as it does others.
