@@ -4,8 +4,8 @@
 use crate::measured;
 use crate::plain;
 use crate::timing::{heading, measure, row};
-use checks::generator::damage::damaged;
 use checks::generator::frame::{frame as framed_image, set};
+use checks::generator::mutation::untargeted;
 use checks::random::Random;
 use reading::layout::{header, FIRST_OBJECT, MOST_BYTES};
 use std::hint::black_box;
@@ -101,7 +101,7 @@ fn full(label: &str, kinds: &[(u8, u64, u64)]) -> Full {
 /// Only what answers the same can be compared.
 fn same_answers() {
     for seed in 0..20_000 {
-        let image = damaged(&mut Random::new(seed));
+        let image = untargeted(&mut Random::new(seed));
         let answer = framed(&image);
         assert_eq!(plain::refusal(&image), answer);
         assert_eq!(plain::refusal_in_one_pass(&image), answer);

@@ -2,7 +2,7 @@
 //! the independent reading.
 use checks::corpus;
 use checks::generator::any::any;
-use checks::generator::damage::targeted;
+use checks::generator::mutation::targeted;
 use checks::generator::worked::{made, two_appends, LISTING};
 use checks::program::list;
 use checks::random::Random;

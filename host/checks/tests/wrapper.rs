@@ -1,7 +1,7 @@
 //! The wrapper's typed answers are the archive's numbers: nothing is lost and nothing is made up.
 use checks::corpus::{self, FILES};
 use checks::generator::any::any;
-use checks::generator::damage::targeted;
+use checks::generator::mutation::targeted;
 use checks::generator::questions::Arguments;
 use checks::random::Random;
 use reading::ask::Question;

@@ -1,10 +1,11 @@
 //! Images of every kind that the generator knows.
-use super::damage;
 use super::dice::{between, pick};
-use super::good::{draft, good, Wish};
+use super::good::{draft, good};
 use super::grown::grown;
+use super::mutation;
 use super::render::render;
 use super::requests::fitting;
+use super::wish::Wish;
 use super::{appends, dice::once_in};
 use crate::random::Random;
 use reading::carry::carry_out;
@@ -54,7 +55,7 @@ fn clause(random: &mut Random) -> Clause {
     }
 }
 
-/// An image of any kind, good or damaged.
+/// An image of any kind, good or mutated.
 pub fn any(random: &mut Random) -> Vec<u8> {
     match random.below(16) {
         0 | 1 => good(random).image,
@@ -63,18 +64,18 @@ pub fn any(random: &mut Random) -> Vec<u8> {
         4 => cut(random),
         5 => {
             let image = cut(random);
-            damage::spoiled(random, &image)
+            mutation::mutated(random, &image)
         }
         6 => {
             let image = larger(random);
-            damage::spoiled(random, &image)
+            mutation::mutated(random, &image)
         }
         7 | 8 => {
             let image = good(random).image;
-            damage::spoiled(random, &image)
+            mutation::mutated(random, &image)
         }
-        9..=11 => damage::targeted(clause(random), random),
-        12 | 13 => damage::in_company(clause(random), random),
-        _ => damage::damaged(random),
+        9..=11 => mutation::targeted(clause(random), random),
+        12 | 13 => mutation::combined(clause(random), random),
+        _ => mutation::untargeted(random),
     }
 }

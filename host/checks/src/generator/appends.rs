@@ -1,9 +1,9 @@
 //! Appends: an image, a request and the length of the lent store list.
-use super::damage::untidy;
 use super::dice::{once_in, pick};
 use super::good::tidy;
 use super::grown::grown;
-use super::requests::{change, fitting, spoil, Asked};
+use super::mutation::{self, untidy};
+use super::requests::{change, fitting, mutate, Asked};
 use crate::random::Random;
 use reading::image::Image;
 use reading::layout::header;
@@ -64,7 +64,7 @@ pub fn targeted(clause: Clause, random: &mut Random) -> Case {
         let mut made = tidy(random);
         let mut asked = fitting(random, &made.image);
         let possible = match clause.number {
-            12..=14 => untidy::damage(clause, random, &mut made),
+            12..=14 => untidy::mutate(clause, random, &mut made),
             15..=17 => change(clause, random, &made.image, &mut asked),
             18 if once_in(random, 2) => {
                 let end = end_of(&made.image, &asked);
@@ -95,7 +95,7 @@ pub fn targeted(clause: Clause, random: &mut Random) -> Case {
 
 /// An append meant for a clause of 12 to 18 with at least one other of its number or a higher one:
 /// the lowest is the answer.
-pub fn in_company(clause: Clause, random: &mut Random) -> Case {
+pub fn combined(clause: Clause, random: &mut Random) -> Case {
     assert!(clause.number < LIST_SHORT.number, "nothing is above it");
     loop {
         let mut all = beside(clause, random);
@@ -103,14 +103,14 @@ pub fn in_company(clause: Clause, random: &mut Random) -> Case {
             continue;
         }
         all.push(clause);
-        // Damages that draw the image anew come before those that set a word.
+        // Mutations that draw the image anew come before those that set a word.
         all.sort_by_key(|&it| !untidy::redraws(it));
         let mut made = tidy(random);
         let of = |low: u64, high: u64| {
             let all = all.iter().copied();
             all.filter(move |it| (low..=high).contains(&it.number))
         };
-        if !of(12, 14).all(|it| untidy::damage(it, random, &mut made)) {
+        if !of(12, 14).all(|it| untidy::mutate(it, random, &mut made)) {
             continue;
         }
         let mut asked = fitting(random, &made.image);
@@ -146,22 +146,22 @@ fn beside(clause: Clause, random: &mut Random) -> Vec<Clause> {
     others
 }
 
-/// An append of any kind: taken, aimed at a clause, spoiled, or to a damaged image.
+/// An append of any kind: taken, meant for a clause, mutated, or to a mutated image.
 pub fn any(random: &mut Random) -> Case {
     let mut case = match random.below(4) {
         0 if once_in(random, 3) => {
             let below_19 = &APPEND_CLAUSES[..APPEND_CLAUSES.len() - 1];
-            in_company(pick(random, below_19), random)
+            combined(pick(random, below_19), random)
         }
         0 => targeted(pick(random, APPEND_CLAUSES), random),
         1 if once_in(random, 4) => Case {
-            image: super::damage::damaged(random),
+            image: mutation::untargeted(random),
             ..good(random)
         },
         _ => good(random),
     };
     if once_in(random, 4) {
-        spoil(random, &mut case.asked);
+        mutate(random, &mut case.asked);
     }
     case
 }

@@ -17,10 +17,10 @@ pub struct Draft {
     pub order: Vec<usize>,
     pub committed: Vec<usize>,
     pub entry_array: Option<usize>,
-    /// Bytes behind the tail object inside the arena, a multiple of 8.
+    /// Bytes after the tail object inside the arena, a multiple of 8.
     pub spare: u64,
-    /// Bytes of the image behind the arena.
-    pub behind: u64,
+    /// Bytes of the image after the arena.
+    pub trailing: u64,
     /// Free bytes hold anything instead of 0.
     pub noise: bool,
     /// Counters, head and tail facts and cell tails hold anything instead of what is so.
@@ -87,6 +87,31 @@ pub enum Item {
 }
 
 impl Draft {
+    /// A file of these parts in their order, with fixed ids, no committed entry and nothing free.
+    pub fn of(parts: Vec<Part>) -> Draft {
+        Draft {
+            file_id: [1; 16],
+            machine_id: [2; 16],
+            boot_id: [3; 16],
+            seqnum_id: [4; 16],
+            compatible_flags: 0,
+            keyed: false,
+            state: 0,
+            data_table_first: true,
+            data_cells: 2,
+            field_cells: 2,
+            order: (0..parts.len()).collect(),
+            parts,
+            committed: Vec::new(),
+            entry_array: None,
+            spare: 0,
+            trailing: 0,
+            noise: false,
+            free_facts: false,
+            keyed_xor: false,
+        }
+    }
+
     /// Where in the file a part stands among the others.
     pub fn position(&self, part: usize) -> usize {
         self.order

@@ -5,7 +5,7 @@ use crate::random::Random;
 
 /// One DATA, one FIELD and as many entries as the arrays of the header's chain have items. The DATA's
 /// chain has arrays of the same sizes, less the one item for the inline entry. `spare` bytes are
-/// left behind the objects.
+/// left after the objects.
 pub fn full(arrays: &[usize], keyed: bool, spare: u64) -> Vec<u8> {
     let count: usize = arrays.iter().sum();
     let first = 2 + 2 * arrays.len();
@@ -49,25 +49,12 @@ pub fn full(arrays: &[usize], keyed: bool, spare: u64) -> Vec<u8> {
         }));
     }
     let draft = Draft {
-        file_id: [1; 16],
-        machine_id: [2; 16],
-        boot_id: [3; 16],
-        seqnum_id: [4; 16],
-        compatible_flags: 0,
         keyed,
-        state: 0,
-        data_table_first: true,
         data_cells: 3,
-        field_cells: 2,
-        order: (0..parts.len()).collect(),
-        parts,
         committed: entries.collect(),
         entry_array: Some(2),
         spare,
-        behind: 0,
-        noise: false,
-        free_facts: false,
-        keyed_xor: false,
+        ..Draft::of(parts)
     };
     render(&draft, &mut Random::new(1)).image
 }

@@ -3,19 +3,11 @@
 use super::dice::{between, once_in, pick, shuffle};
 use super::draft::{Draft, Part};
 use super::parts::{add_data, add_entries, add_fields, add_loose};
-use super::render::{render, Rendered};
+use super::render::render;
+use super::rendered::Rendered;
 use super::strays::{share_arrays, stray_links};
+use super::wish::Wish;
 use crate::random::Random;
-
-/// What a good image is to be.
-#[derive(Clone, Copy)]
-pub struct Wish {
-    /// Fit for an append: refusals 12 to 14 do not apply.
-    pub tidy: bool,
-    /// At most so many entries and DATA.
-    pub entries: u64,
-    pub data: u64,
-}
 
 /// A good image.
 pub fn good(random: &mut Random) -> Rendered {
@@ -90,7 +82,7 @@ fn empty(random: &mut Random, wish: Wish) -> Draft {
         } else {
             pick(random, &[0, 1, 2, 5, 60])
         },
-        behind: pick(random, &[0, 1, 7, 8, 30]),
+        trailing: pick(random, &[0, 1, 7, 8, 30]),
         noise: once_in(random, 2),
         free_facts: !wish.tidy && once_in(random, 2),
         keyed_xor: false,

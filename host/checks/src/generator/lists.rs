@@ -1,7 +1,7 @@
 //! The arrays of a draft: the global chain and the DATA's lists.
 use super::dice::{between, once_in, pick, shuffle};
 use super::draft::{Array, Draft, Item, Part};
-use super::good::Wish;
+use super::wish::Wish;
 use crate::random::Random;
 
 /// Adds arrays with room for the committed entries and for each DATA's list, settles the

@@ -1,7 +1,6 @@
-//! Good images and damaged ones, by a writer of its own, and appends to them.
+//! Good images and mutated ones, by a writer of its own, and appends to them.
 pub mod any;
 pub mod appends;
-pub mod damage;
 pub mod dice;
 pub mod draft;
 mod facts;
@@ -10,11 +9,14 @@ pub mod full;
 pub mod good;
 pub mod grown;
 mod lists;
+pub mod mutation;
 mod parts;
 pub mod questions;
 pub mod render;
 mod render_header;
 mod render_links;
+pub mod rendered;
 pub mod requests;
 mod strays;
+pub mod wish;
 pub mod worked;

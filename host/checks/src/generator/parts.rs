@@ -1,7 +1,7 @@
 //! The DATA, FIELDs and ENTRYs of a good image.
 use super::dice::{between, once_in, pick, some_of};
 use super::draft::{Data, Draft, Entry, Field, Item, Part};
-use super::good::Wish;
+use super::wish::Wish;
 use crate::random::Random;
 
 fn some_bytes(random: &mut Random) -> Vec<u8> {

@@ -1,5 +1,5 @@
 //! Writes a draft's header.
-use super::render::{kind_of, Rendered};
+use super::rendered::{kind_of, Rendered};
 use crate::random::Random;
 use reading::layout::{header, kind, table, KEYED_HASH, SIGNATURE};
 

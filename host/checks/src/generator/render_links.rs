@@ -1,6 +1,6 @@
 //! Writes a draft's hash chains and FIELD lists.
 use super::draft::Part;
-use super::render::{hash, Rendered};
+use super::rendered::{hash, Rendered};
 use reading::image::name_of;
 use reading::layout::{data, field, table};
 

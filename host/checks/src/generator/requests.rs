@@ -184,8 +184,8 @@ pub fn change(clause: Clause, random: &mut Random, image: &[u8], asked: &mut Ask
     true
 }
 
-/// Damages a request without an aim.
-pub fn spoil(random: &mut Random, asked: &mut Asked) {
+/// Mutates a request anywhere.
+pub fn mutate(random: &mut Random, asked: &mut Asked) {
     match random.below(8) {
         0 => asked.seqnum = edge(random, asked.seqnum),
         1 => asked.realtime = edge(random, asked.realtime),

@@ -2,7 +2,7 @@
 //! lists, and of arrays that nothing refers to.
 use super::dice::{once_in, pick};
 use super::draft::{Draft, Part};
-use super::render::Rendered;
+use super::rendered::Rendered;
 use crate::random::Random;
 use reading::image::name_of;
 use reading::layout::{array, data, field};

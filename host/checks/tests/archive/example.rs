@@ -1,6 +1,7 @@
 //! A small journal that the cases of `drafts` and `words` change.
 use checks::generator::draft::{Array, Data, Draft, Entry, Field, Item, Part};
-use checks::generator::render::{render, Rendered};
+use checks::generator::render::render;
+use checks::generator::rendered::Rendered;
 use checks::random::Random;
 
 /// Numbers of the parts that `example` has.
@@ -89,25 +90,11 @@ pub fn example() -> Draft {
         (twin.chained, twin.listed) = (None, false);
     }
     Draft {
-        file_id: [1; 16],
-        machine_id: [2; 16],
-        boot_id: [3; 16],
-        seqnum_id: [4; 16],
-        compatible_flags: 0,
-        keyed: false,
-        state: 0,
-        data_table_first: true,
         data_cells: 5,
         field_cells: 3,
-        order: (0..parts.len()).collect(),
-        parts,
         committed: vec![FIRST, FIRST + 1, LAST],
         entry_array: Some(GLOBAL),
-        spare: 0,
-        behind: 0,
-        noise: false,
-        free_facts: false,
-        keyed_xor: false,
+        ..Draft::of(parts)
     }
 }
 

@@ -4,7 +4,7 @@ use super::trial::{with, Tried};
 use checks::corpus;
 use checks::generator::frame::{frame, set};
 use checks::generator::worked::made;
-use checks::generator::{damage, good, grown};
+use checks::generator::{good, grown, mutation};
 use checks::random::Random;
 use reading::image::{le64, Image};
 use reading::layout::{header, kind, MOST_BYTES};
@@ -91,12 +91,12 @@ fn every_clause() {
 }
 
 #[test]
-fn damages_without_an_aim() {
+fn untargeted_mutations() {
     let mut tried = tried();
     for seed in 0..60_000 {
-        tried.image(&damage::damaged(&mut Random::new(seed + 7_000_000)));
+        tried.image(&mutation::untargeted(&mut Random::new(seed + 7_000_000)));
     }
-    tried.print("damages without an aim");
+    tried.print("untargeted mutations");
     assert!((0..8).all(|number| number == 2 || tried.answers[number] > 100));
 }
 

@@ -6,7 +6,7 @@ use checks::against::lookups::{archive, read, read_stamps, shows, Words};
 use checks::corpus::{self, FILES};
 use checks::generator::any::{any, cut, larger};
 use checks::generator::questions::Arguments;
-use checks::generator::{appends, damage, good, grown};
+use checks::generator::{appends, good, grown, mutation};
 use checks::random::Random;
 use reading::ask::Question;
 use reading::carry::carry_out;
@@ -225,13 +225,13 @@ fn damaged_images() {
         let rounds = if clause.number == 2 { 1 } else { 3 };
         for seed in 0..rounds {
             let random = &mut Random::new(seed + 1_000 * number as u64);
-            tried.image(&damage::targeted(clause, random), &alone());
-            tried.image(&damage::in_company(clause, random), &alone());
+            tried.image(&mutation::targeted(clause, random), &alone());
+            tried.image(&mutation::combined(clause, random), &alone());
         }
     }
     for seed in 0..150 {
         tried.image(
-            &damage::damaged(&mut Random::new(seed + 7_000_000)),
+            &mutation::untargeted(&mut Random::new(seed + 7_000_000)),
             &alone(),
         );
         tried.image(&any(&mut Random::new(seed + 9_000_000)), &alone());

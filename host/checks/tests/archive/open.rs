@@ -6,7 +6,7 @@ use checks::corpus;
 use checks::generator::any::{any, cut, larger};
 use checks::generator::frame::{frame, set};
 use checks::generator::worked::one_cell_each;
-use checks::generator::{damage, good, grown};
+use checks::generator::{good, grown, mutation};
 use checks::random::Random;
 use reading::layout::{header, kind, MOST_BYTES};
 use reading::new_file::{new_file, NewFile};
@@ -60,15 +60,15 @@ fn every_clause() {
 }
 
 #[test]
-fn damages_without_an_aim() {
+fn untargeted_mutations() {
     let mut tried = tried();
     for seed in 0..12_000 {
-        tried.image(&damage::damaged(&mut Random::new(seed + 7_000_000)));
+        tried.image(&mutation::untargeted(&mut Random::new(seed + 7_000_000)));
     }
     for seed in 0..8_000 {
         tried.image(&any(&mut Random::new(seed + 9_000_000)));
     }
-    tried.print("damages without an aim");
+    tried.print("untargeted mutations");
     assert!((0..12).all(|number| number == 2 || tried.answers[number] > 50));
 }
 
@@ -134,7 +134,7 @@ fn real_files() {
             continue;
         }
         for seed in 0..150 {
-            tried.image(&damage::spoiled(&mut Random::new(seed), &image));
+            tried.image(&mutation::mutated(&mut Random::new(seed), &image));
         }
     }
     tried.print("real files");

@@ -3,7 +3,7 @@ use super::paging::{Asked, Tried};
 use checks::corpus::{self, FILES};
 use checks::generator::any::{any, cut, larger};
 use checks::generator::full::full;
-use checks::generator::{damage, good, grown};
+use checks::generator::{good, grown, mutation};
 use checks::random::Random;
 use reading::layout::{kind, MOST_BYTES};
 use reading::lookup::open;
@@ -44,10 +44,10 @@ fn damaged_images() {
     let mut tried = Tried::default();
     for (number, &clause) in CLAUSES.iter().enumerate() {
         let random = &mut Random::new(number as u64 + 40_000);
-        tried.image(&damage::targeted(clause, random));
+        tried.image(&mutation::targeted(clause, random));
     }
     for seed in 0..60 {
-        tried.image(&damage::damaged(&mut Random::new(seed + 40_000)));
+        tried.image(&mutation::untargeted(&mut Random::new(seed + 40_000)));
     }
     for seed in 0..20 {
         tried.image(&any(&mut Random::new(seed + 40_000)));

@@ -3,8 +3,8 @@
 use std::collections::BTreeMap;
 
 use checks::against::lent::Lent;
-use checks::generator::damage;
 use checks::generator::frame::set;
+use checks::generator::mutation;
 use checks::random::Random;
 use reading::refusal::{clauses, Clause, CLAUSES};
 
@@ -67,41 +67,41 @@ impl Tried {
         self.image(image).first().map_or(0, |clause| clause.number)
     }
 
-    /// Damages with an aim for each clause, this many times by its number. A clause is alone where no
-    /// other of its number applies and nothing else was damaged. It is in company where another one
-    /// of its number applies too, or where there are damages for higher numbers in the same image.
+    /// Targeted mutations for each clause, this many times by its number. A clause is alone where no
+    /// other of its number applies and nothing else was mutated. It is combined where another one
+    /// of its number applies too, or where there are mutations for higher numbers in the same image.
     pub fn every_clause(&mut self, rounds: fn(u64) -> u64) {
-        let (mut alone, mut company) = (BTreeMap::new(), BTreeMap::new());
+        let (mut alone, mut together) = (BTreeMap::new(), BTreeMap::new());
         let mut all = CLAUSES.to_vec();
         all.retain(|clause| clause.number <= self.highest);
         for (number, &clause) in all.iter().enumerate() {
             for seed in 0..rounds(clause.number) {
                 let random = &mut Random::new(seed + 1_000 * number as u64);
-                let found = self.image(&damage::targeted(clause, random));
+                let found = self.image(&mutation::targeted(clause, random));
                 let table = if found.len() == 1 {
                     &mut alone
                 } else {
-                    &mut company
+                    &mut together
                 };
                 for &clause in &found {
                     *table.entry(clause).or_insert(0) += 1;
                 }
-                for &clause in &self.image(&damage::in_company(clause, random)) {
-                    *company.entry(clause).or_insert(0) += 1;
+                for &clause in &self.image(&mutation::combined(clause, random)) {
+                    *together.entry(clause).or_insert(0) += 1;
                 }
             }
         }
-        println!("{:>3} {:>6} {:>10}", "no.", "alone", "in company");
+        println!("{:>3} {:>6} {:>10}", "no.", "alone", "combined");
         for clause in &all {
             let of = |table: &BTreeMap<Clause, u64>| table.get(clause).copied().unwrap_or(0);
-            let (alone, company) = (of(&alone), of(&company));
+            let (alone, together) = (of(&alone), of(&together));
             let Clause { number, name } = clause;
-            println!("{number:>3} {alone:>6} {company:>10}  {name}");
-            assert!(company > 0, "{clause:?}");
+            println!("{number:>3} {alone:>6} {together:>10}  {name}");
+            assert!(together > 0, "{clause:?}");
             // Equal offsets are the same entry, so equal seqnums come with them.
             assert!(alone > 0 || *name == "offsets equal", "{clause:?}");
         }
-        self.print("damages with an aim");
+        self.print("targeted mutations");
     }
 
     pub fn print(&self, what: &str) {

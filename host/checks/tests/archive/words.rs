@@ -2,7 +2,7 @@
 use super::example::*;
 use super::open::tried;
 use super::trial::with;
-use checks::generator::render::Rendered;
+use checks::generator::rendered::Rendered;
 use reading::image::{le64, Image};
 use reading::layout::{data, entry, field, header};
 

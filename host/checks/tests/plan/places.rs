@@ -1,6 +1,6 @@
 //! Where new objects go: cells, FIELDs' lists, old DATA of count 0, and the arena's end.
 use checks::against::plan::Append;
-use checks::generator::draft::{Data, Draft, Entry, Field, Item, Part};
+use checks::generator::draft::{Array, Data, Draft, Entry, Field, Item, Part};
 use checks::generator::frame::set;
 use checks::generator::render::render;
 use checks::generator::worked::{first, request};
@@ -9,7 +9,7 @@ use reading::image::{arena_end, Image};
 use reading::layout::{header, MOST_BYTES};
 use reading::request::{packed, Request};
 
-use crate::made::{fields, made, Tried, MACHINE};
+use crate::made::{fields, made, Tried};
 
 /// Payloads whose hashes fall in one cell, or names, or both; behind nothing, and behind old ones.
 #[test]
@@ -111,31 +111,19 @@ fn unheld(keyed: bool, stale: bool) -> Draft {
             boot_id: [5; 16],
             items: vec![2],
         }),
-        Part::Array(checks::generator::draft::Array {
+        Part::Array(Array {
             next: None,
             items: vec![Item::Entry(5), Item::End],
         }),
     ];
     Draft {
-        file_id: [1; 16],
-        machine_id: MACHINE,
-        boot_id: [3; 16],
-        seqnum_id: [4; 16],
-        compatible_flags: 0,
         keyed,
-        state: 0,
-        data_table_first: true,
-        data_cells: 2,
-        field_cells: 2,
-        order: (0..parts.len()).collect(),
-        parts,
         committed: vec![5],
         entry_array: Some(6),
         spare: 2048,
-        behind: 3,
+        trailing: 3,
         noise: true,
-        free_facts: false,
-        keyed_xor: false,
+        ..Draft::of(parts)
     }
 }
 
@@ -212,7 +200,7 @@ fn longest_images() {
             }];
             (draft.order, draft.committed) = (vec![0], Vec::new());
             (draft.entry_array, draft.noise) = (None, false);
-            (draft.spare, draft.behind) = (room, 0);
+            (draft.spare, draft.trailing) = (room, 0);
             let image = render(&draft, &mut Random::new(3)).image;
             assert_eq!(arena_end(&image), u128::from(MOST_BYTES));
             let number = if room < 416 { 18 } else { 0 };

@@ -1,13 +1,13 @@
-//! Every clause of 1 to 19, alone and in company: the lowest number is the answer, and nothing is
+//! Every clause of 1 to 19, alone and combined: the lowest number is the answer, and nothing is
 //! written.
 use std::collections::BTreeMap;
 
 use checks::against::plan::Append;
-use checks::generator::appends::{in_company, targeted, Case};
+use checks::generator::appends::{combined, targeted, Case};
 use checks::generator::frame::set;
-use checks::generator::requests::{fitting, spoil};
+use checks::generator::requests::{fitting, mutate};
 use checks::generator::worked::request;
-use checks::generator::{damage, good};
+use checks::generator::{good, mutation};
 use checks::random::Random;
 use reading::image::le64;
 use reading::layout::header;
@@ -30,45 +30,45 @@ fn found(tried: &mut Tried, case: &Case) -> Vec<Clause> {
     }
 }
 
-fn print(all: &[Clause], alone: &Table, company: &Table) {
-    println!("{:>3} {:>6} {:>10}", "no.", "alone", "in company");
+fn print(all: &[Clause], alone: &Table, together: &Table) {
+    println!("{:>3} {:>6} {:>10}", "no.", "alone", "combined");
     for clause in all {
         let of = |table: &Table| table.get(clause).copied().unwrap_or(0);
-        let (alone, company) = (of(alone), of(company));
+        let (alone, together) = (of(alone), of(together));
         println!(
-            "{:>3} {alone:>6} {company:>10}  {}",
+            "{:>3} {alone:>6} {together:>10}  {}",
             clause.number, clause.name
         );
         assert!(alone > 0, "{clause:?}");
         // Nothing is above 19.
-        assert!(company > 0 || *clause == LIST_SHORT, "{clause:?}");
+        assert!(together > 0 || *clause == LIST_SHORT, "{clause:?}");
     }
 }
 
 #[test]
 fn every_clause_of_12_to_19() {
     let mut tried = Tried::default();
-    let (mut alone, mut company) = (Table::new(), Table::new());
+    let (mut alone, mut together) = (Table::new(), Table::new());
     for (number, &clause) in APPEND_CLAUSES.iter().enumerate() {
         for seed in 0..60 {
             let random = &mut Random::new(seed + 1_000 * number as u64);
             let clauses = found(&mut tried, &targeted(clause, random));
             let table = match clauses.len() {
                 1 => &mut alone,
-                _ => &mut company,
+                _ => &mut together,
             };
             for clause in clauses {
                 *table.entry(clause).or_insert(0) += 1;
             }
             if clause != LIST_SHORT {
-                for clause in found(&mut tried, &in_company(clause, random)) {
-                    *company.entry(clause).or_insert(0) += 1;
+                for clause in found(&mut tried, &combined(clause, random)) {
+                    *together.entry(clause).or_insert(0) += 1;
                 }
             }
         }
     }
-    print(APPEND_CLAUSES, &alone, &company);
-    tried.print("damages with an aim for 12 to 19");
+    print(APPEND_CLAUSES, &alone, &together);
+    tried.print("targeted mutations for 12 to 19");
 }
 
 /// Refusals of the image come first, whatever is asked.
@@ -81,15 +81,15 @@ fn every_clause_of_1_to_11() {
         for seed in 0..rounds {
             let random = &mut Random::new(seed + 1_000 * number as u64);
             let damaged = [
-                damage::targeted(clause, random),
-                damage::in_company(clause, random),
+                mutation::targeted(clause, random),
+                mutation::combined(clause, random),
             ];
             for image in damaged {
                 // A request for another image, which may be a bad one.
                 let other = good::tidy(random).image;
                 let mut asked = fitting(random, &other);
                 if seed % 2 == 0 {
-                    spoil(random, &mut asked);
+                    mutate(random, &mut asked);
                 }
                 let case = Case {
                     image,
@@ -102,7 +102,7 @@ fn every_clause_of_1_to_11() {
         }
         assert!(reached > 0, "{clause:?}");
     }
-    tried.print("damages with an aim for 1 to 11");
+    tried.print("targeted mutations for 1 to 11");
     assert!(tried.0[1..=11].iter().all(|&n| n > 0));
 }
 

@@ -3,8 +3,8 @@
 use std::collections::BTreeMap;
 
 use checks::generator::draft::{Item, Part};
-use checks::generator::render::Rendered;
-use checks::generator::{appends, damage, good, grown};
+use checks::generator::rendered::Rendered;
+use checks::generator::{appends, good, grown, mutation};
 use checks::random::Random;
 use reading::ask::{ask, Answer};
 use reading::committed::{counted, list};
@@ -243,7 +243,7 @@ fn tables_and_lists_lead_to_the_scanned_answers() {
         let image = match seed % 10 {
             0 => good::good(random).image,
             1 => grown::grown(random, 5),
-            _ => damage::damaged(random),
+            _ => mutation::untargeted(random),
         };
         if let Ok(journal) = open(&image) {
             opened += 1;

@@ -1,7 +1,7 @@
-//! How often each clause of the tables of refusals is reached, alone and in company.
+//! How often each clause of the tables of refusals is reached, alone and combined.
 use std::collections::BTreeMap;
 
-use checks::generator::{appends, damage, good};
+use checks::generator::{appends, good, mutation};
 use checks::random::Random;
 use reading::plan::{append, plan};
 use reading::refusal::{clauses, Clause, APPEND_CLAUSES, CLAUSES};
@@ -10,7 +10,7 @@ use reading::refusal::{clauses, Clause, APPEND_CLAUSES, CLAUSES};
 struct Table {
     meant: BTreeMap<Clause, u64>,
     alone: BTreeMap<Clause, u64>,
-    company: BTreeMap<Clause, u64>,
+    together: BTreeMap<Clause, u64>,
 }
 
 impl Table {
@@ -22,7 +22,7 @@ impl Table {
             let map = if found.len() == 1 {
                 &mut self.alone
             } else {
-                &mut self.company
+                &mut self.together
             };
             *map.entry(clause).or_default() += 1;
         }
@@ -32,9 +32,9 @@ impl Table {
         println!("{:>3} {:>6} {:>6} {:>6}", "no.", "meant", "alone", "with");
         for clause in all {
             let of = |map: &BTreeMap<Clause, u64>| map.get(clause).copied().unwrap_or(0);
-            let (meant, alone, company) = (of(&self.meant), of(&self.alone), of(&self.company));
+            let (meant, alone, together) = (of(&self.meant), of(&self.alone), of(&self.together));
             println!(
-                "{:>3} {meant:>6} {alone:>6} {company:>6}  {}",
+                "{:>3} {meant:>6} {alone:>6} {together:>6}  {}",
                 clause.number, clause.name
             );
         }
@@ -75,7 +75,7 @@ fn every_clause_of_an_image_is_reached() {
     for (number, &clause) in CLAUSES.iter().enumerate() {
         let rounds = if clause.number == 2 { 3 } else { 400 };
         for seed in 0..rounds {
-            let image = damage::targeted(clause, &mut Random::new(seed + 1000 * number as u64));
+            let image = mutation::targeted(clause, &mut Random::new(seed + 1000 * number as u64));
             table.count(Some(clause), &clauses(&image));
         }
     }
@@ -117,11 +117,11 @@ fn every_clause_of_an_append_is_reached() {
 }
 
 #[test]
-fn damages_without_an_aim() {
+fn untargeted_mutations() {
     let mut table = Table::default();
     let mut accepted = 0;
     for seed in 0..100_000 {
-        let found = clauses(&damage::damaged(&mut Random::new(seed)));
+        let found = clauses(&mutation::untargeted(&mut Random::new(seed)));
         accepted += found.is_empty() as u64;
         table.count(None, &found);
     }

@@ -1,8 +1,8 @@
 //! Every refusal by its number, and a file that stays as it was.
 use crate::person::{append, asked, bytes, file, folder, made, options, typed, MACHINE};
 use checks::corpus::{self, FILES};
-use checks::generator::damage::targeted;
 use checks::generator::frame::set;
+use checks::generator::mutation::targeted;
 use checks::random::Random;
 use reading::image::le64;
 use reading::layout::header;

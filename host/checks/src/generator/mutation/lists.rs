@@ -1,14 +1,14 @@
-//! Damages for refusal 10.
+//! Mutations for refusal 10.
 use crate::generator::dice::{once_in, pick};
 use crate::generator::draft::Part;
-use crate::generator::render::Rendered;
+use crate::generator::rendered::Rendered;
 use crate::random::Random;
 use reading::committed::{committed, counted, last_committed};
 use reading::image::Image;
 use reading::layout::{data, kind};
 use reading::refusal::clause::*;
 
-pub fn damage(clause: Clause, random: &mut Random, made: &mut Rendered) -> bool {
+pub fn mutate(clause: Clause, random: &mut Random, made: &mut Rendered) -> bool {
     let parts = made.draft.in_order(|part| matches!(part, Part::Data(_)));
     if parts.is_empty() {
         return false;

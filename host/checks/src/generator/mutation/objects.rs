@@ -1,12 +1,12 @@
-//! Damages for refusal 6.
+//! Mutations for refusal 6.
 use crate::generator::dice::{between, once_in, pick};
-use crate::generator::render::Rendered;
+use crate::generator::rendered::Rendered;
 use crate::random::Random;
 use reading::image::{Image, Object};
 use reading::layout::{header, kind};
 use reading::refusal::clause::*;
 
-pub fn damage(clause: Clause, random: &mut Random, made: &mut Rendered) -> bool {
+pub fn mutate(clause: Clause, random: &mut Random, made: &mut Rendered) -> bool {
     let objects = Image::walked(&made.image).objects;
     let tail = *objects.last().expect("two tables");
     match clause {

@@ -1,4 +1,4 @@
-//! Damages without an aim: bytes and words anywhere, and inputs that are no journal.
+//! Untargeted mutations: bytes and words anywhere, and inputs that are no journal.
 use crate::generator::dice::{between, edge, once_in, pick};
 use crate::random::Random;
 use reading::image::le64;

@@ -1,14 +1,15 @@
-//! Damages for refusal 11: words that hold wrong hashes, and drafts with all hashes mended
+//! Mutations for refusal 11: words that hold wrong hashes, and drafts with all hashes mended
 //! whose chains and lists are not as they should be.
 use crate::generator::dice::{once_in, pick};
 use crate::generator::draft::{Data, Draft, Field, Item, Part};
-use crate::generator::render::{hash, render, Rendered};
+use crate::generator::render::render;
+use crate::generator::rendered::{hash, Rendered};
 use crate::random::Random;
 use reading::image::name_of;
 use reading::layout::{data, entry, field};
 use reading::refusal::clause::*;
 
-pub fn damage(clause: Clause, random: &mut Random, made: &mut Rendered) -> bool {
+pub fn mutate(clause: Clause, random: &mut Random, made: &mut Rendered) -> bool {
     match clause {
         DATA_HASH | FIELD_HASH | ITEM_HASH | XOR_HASH => words(clause, random, made),
         OTHER_NAME_CHAINED | OTHER_NAME_OFF => other_name(clause, random, made),

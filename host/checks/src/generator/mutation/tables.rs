@@ -1,12 +1,12 @@
-//! Damages for refusal 7.
+//! Mutations for refusal 7.
 use crate::generator::dice::{between, edge, once_in, pick};
 use crate::generator::draft::Part;
-use crate::generator::render::Rendered;
+use crate::generator::rendered::Rendered;
 use crate::random::Random;
 use reading::layout::{header, kind};
 use reading::refusal::clause::*;
 
-pub fn damage(clause: Clause, random: &mut Random, made: &mut Rendered) -> bool {
+pub fn mutate(clause: Clause, random: &mut Random, made: &mut Rendered) -> bool {
     match clause {
         FEWER_THAN_TWO => made.set(header::TAIL_OBJECT_OFFSET, 256),
         FIRST_TWO => first_two(random, made),

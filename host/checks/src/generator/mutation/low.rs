@@ -1,11 +1,11 @@
-//! Damages for refusals 1 to 5.
+//! Mutations for refusals 1 to 5.
 use crate::generator::dice::{between, once_in, pick};
-use crate::generator::render::Rendered;
+use crate::generator::rendered::Rendered;
 use crate::random::Random;
 use reading::layout::{header, MOST_BYTES};
 use reading::refusal::clause::*;
 
-pub fn damage(clause: Clause, random: &mut Random, made: &mut Rendered) -> bool {
+pub fn mutate(clause: Clause, random: &mut Random, made: &mut Rendered) -> bool {
     let length = made.image.len() as u64;
     match clause {
         SHORT => {

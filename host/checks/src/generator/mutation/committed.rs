@@ -1,13 +1,13 @@
-//! Damages for refusal 9.
+//! Mutations for refusal 9.
 use super::links::wrong_target;
 use crate::generator::dice::{between, once_in, pick};
-use crate::generator::render::Rendered;
+use crate::generator::rendered::Rendered;
 use crate::random::Random;
 use reading::image::Image;
 use reading::layout::{entry, header, kind};
 use reading::refusal::clause::*;
 
-pub fn damage(clause: Clause, random: &mut Random, made: &mut Rendered) -> bool {
+pub fn mutate(clause: Clause, random: &mut Random, made: &mut Rendered) -> bool {
     let n = made.draft.committed.len();
     let items: Vec<u64> = {
         let image = Image::walked(&made.image);

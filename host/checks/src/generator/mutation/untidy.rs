@@ -1,12 +1,13 @@
-//! Damages for refusals 12 to 14, which leave the image open.
+//! Mutations for refusals 12 to 14, which leave the image open.
 use crate::generator::dice::{between, edge, once_in, pick};
 use crate::generator::draft::{Array, Data, Draft, Entry, Field, Item, Part};
-use crate::generator::render::{render, Rendered};
+use crate::generator::render::render;
+use crate::generator::rendered::Rendered;
 use crate::random::Random;
 use reading::layout::{header, table};
 use reading::refusal::clause::*;
 
-/// Whether the damage for a clause draws the image anew, so that words set before are lost.
+/// Whether the mutation for a clause draws the image anew, so that words set before are lost.
 pub fn redraws(clause: Clause) -> bool {
     matches!(
         clause,
@@ -20,8 +21,8 @@ pub fn redraws(clause: Clause) -> bool {
     )
 }
 
-/// Damages a tidy image for a clause.
-pub fn damage(clause: Clause, random: &mut Random, made: &mut Rendered) -> bool {
+/// Mutates a tidy image for a clause.
+pub fn mutate(clause: Clause, random: &mut Random, made: &mut Rendered) -> bool {
     let at = match clause {
         COMPATIBLE_BIT => {
             made.image[8 + random.below(4)] |= 1 << random.below(8);

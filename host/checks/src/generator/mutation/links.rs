@@ -1,13 +1,13 @@
-//! Damages for refusal 8.
+//! Mutations for refusal 8.
 use crate::generator::dice::{once_in, pick};
 use crate::generator::draft::Part;
-use crate::generator::render::Rendered;
+use crate::generator::rendered::Rendered;
 use crate::random::Random;
 use reading::image::Image;
 use reading::layout::{array, data, entry, field, header, kind, table};
 use reading::refusal::clause::*;
 
-pub fn damage(clause: Clause, random: &mut Random, made: &mut Rendered) -> bool {
+pub fn mutate(clause: Clause, random: &mut Random, made: &mut Rendered) -> bool {
     let of = |kind: u8| -> Vec<u64> {
         Image::walked(&made.image)
             .of_kind(kind)
