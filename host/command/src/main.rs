@@ -14,6 +14,7 @@ mod system;
 mod table;
 mod text;
 mod times;
+mod words;
 
 use arguments::Command;
 use fault::Fault;

@@ -1,6 +1,6 @@
 //! An append that is ended at each of its syncs, one whose sync fails, one on a full disk, and one to a
 //! file that another program writes at the same time.
-use crate::appending::stores;
+use crate::expected::stores;
 use crate::person::{append, asked, bytes, file, folder, made, options, program, said, Said};
 use reading::carry::carry_out;
 use std::path::{Path, PathBuf};

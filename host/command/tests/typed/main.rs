@@ -2,6 +2,7 @@
 //! status it ends with, and what becomes of the file.
 mod appending;
 mod cut;
+mod expected;
 mod files;
 mod locked;
 mod making;
