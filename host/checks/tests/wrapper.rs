@@ -2,7 +2,7 @@
 use checks::corpus::{self, FILES};
 use checks::generator::any::any;
 use checks::generator::mutation::targeted;
-use checks::generator::questions::Arguments;
+use checks::generator::questions::{one_of_each, Arguments};
 use checks::random::Random;
 use reading::ask::Question;
 use reading::lookup::open;
@@ -36,14 +36,7 @@ fn same_lookups(image: &[u8], step: usize) {
             arguments.add(journal);
             arguments.questions(journal)
         }
-        Err(_) => vec![
-            Question::Entry(0),
-            Question::FirstSeqnum(0),
-            Question::FirstRealtime(0),
-            Question::Holding(b"A=1".to_vec(), 0),
-            Question::Item(256, 0),
-            Question::Payload(b"A".to_vec(), 0),
-        ],
+        Err(_) => one_of_each(),
     };
     for question in questions.iter().step_by(step) {
         match question {

@@ -4,3 +4,4 @@ pub mod lent;
 pub mod lookups;
 pub mod orders;
 pub mod plan;
+pub mod trial;

@@ -1,5 +1,5 @@
 //! What to ask of an image that opens: every argument at which an answer may change, and every
-//! place up to behind the last.
+//! place up to one after the last.
 use std::collections::BTreeSet;
 
 use reading::ask::Question;
@@ -102,4 +102,16 @@ pub fn questions(journal: &Journal) -> Vec<Question> {
     let mut arguments = Arguments::default();
     arguments.add(journal);
     arguments.questions(journal)
+}
+
+/// One question of each kind, for images that do not open.
+pub fn one_of_each() -> Vec<Question> {
+    vec![
+        Question::Entry(0),
+        Question::FirstSeqnum(0),
+        Question::FirstRealtime(0),
+        Question::Holding(b"MESSAGE=".to_vec(), 0),
+        Question::Item(256, 0),
+        Question::Payload(b"MESSAGE".to_vec(), 0),
+    ]
 }

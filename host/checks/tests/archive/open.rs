@@ -1,8 +1,7 @@
 //! The archive's `journal_open` against the independent reading: the lowest of refusals 1 to 11
 //! that applies, or 0.
 use super::example::{drawn, example};
-use super::trial::{with, Tried};
-use checks::corpus;
+use checks::against::trial::{with, Tried};
 use checks::generator::any::{any, cut, larger};
 use checks::generator::frame::{frame, set};
 use checks::generator::worked::one_cell_each;
@@ -123,19 +122,12 @@ fn the_longest_image() {
     tried.print("the longest image");
 }
 
-/// Files of journald: as they are, and those that open also damaged.
+/// Files of journald, with untargeted mutations of those that open.
 #[test]
 fn real_files() {
-    let mut tried = tried();
-    for (name, number) in corpus::FILES {
-        let image = corpus::image(name);
-        assert_eq!(tried.number(&image), number, "{name}");
-        if number != 0 {
-            continue;
-        }
+    tried().real_files(|tried, image| {
         for seed in 0..150 {
-            tried.image(&mutation::mutated(&mut Random::new(seed), &image));
+            tried.image(&mutation::mutated(&mut Random::new(seed), image));
         }
-    }
-    tried.print("real files");
+    });
 }

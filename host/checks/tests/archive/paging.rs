@@ -1,7 +1,7 @@
 //! How pages are tried: every question to an image, from every place, in pages of every length at which
 //! the answer changes; the archive's answer and page held against the reading's.
-use super::trial::{hex, lend};
 use checks::against::lent::Lent;
+use checks::against::trial::{hex, lend};
 use checks::generator::questions::Arguments;
 use checks::random::Random;
 use reading::lookup::{open, Journal};

@@ -1,7 +1,7 @@
 //! The example with words of its image changed, one by one.
 use super::example::*;
 use super::open::tried;
-use super::trial::with;
+use checks::against::trial::with;
 use checks::generator::rendered::Rendered;
 use reading::image::{le64, Image};
 use reading::layout::{data, entry, field, header};

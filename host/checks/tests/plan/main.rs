@@ -4,6 +4,7 @@
 mod arrays;
 mod corpus;
 mod cuts;
+mod drafted;
 mod examples;
 mod fields;
 mod made;

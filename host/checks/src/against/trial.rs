@@ -1,14 +1,14 @@
-//! How an image is tried: lent in the midst of other bytes, and a call's answer held against the
-//! reading's.
+//! How an image is tried: lent amid other bytes, and a call's answer compared with the reading's.
 use std::collections::BTreeMap;
 
-use checks::against::lent::Lent;
-use checks::generator::frame::set;
-use checks::generator::mutation;
-use checks::random::Random;
+use super::lent::Lent;
+use crate::corpus::{self, FILES};
+use crate::generator::frame::set;
+use crate::generator::mutation;
+use crate::random::Random;
 use reading::refusal::{clauses, Clause, CLAUSES};
 
-/// Lends the image in the midst of other bytes, at an alignment that goes with the number, and sees
+/// Lends the image amid other bytes, at an alignment that goes with the number, and sees
 /// that neither the image nor what is around it changed.
 pub fn lend<T>(image: &[u8], number: u64, call: impl FnOnce(&[u8]) -> T) -> T {
     let mut lent = Lent::new(image, number);
@@ -49,7 +49,7 @@ impl Tried {
         }
     }
 
-    /// Holds the call's answer against the reading's, and gives the clauses that the reading found.
+    /// Compares the call's answer with the reading's, and gives the clauses that the reading found.
     pub fn image(&mut self, image: &[u8]) -> Vec<Clause> {
         let mut found = clauses(image);
         found.retain(|clause| clause.number <= self.highest);
@@ -102,6 +102,18 @@ impl Tried {
             assert!(alone > 0 || *name == "offsets equal", "{clause:?}");
         }
         self.print("targeted mutations");
+    }
+
+    /// Files of journald: as they are, and those that open also as they are changed by `more`.
+    pub fn real_files(&mut self, more: impl Fn(&mut Tried, &[u8])) {
+        for (name, number) in FILES {
+            let image = corpus::image(name);
+            assert_eq!(self.number(&image), number, "{name}");
+            if number == 0 {
+                more(self, &image);
+            }
+        }
+        self.print("real files");
     }
 
     pub fn print(&self, what: &str) {
