@@ -2,7 +2,7 @@
 //! Rust with the same passes over the objects, and against plain Rust with one.
 #[cfg(measure)]
 use crate::measured;
-use crate::plain;
+use crate::plain::frame as plain;
 use crate::timing::{heading, measure, row};
 use checks::generator::frame::{frame as framed_image, set};
 use checks::generator::mutation::untargeted;

@@ -1,5 +1,6 @@
 //! Opening files that are made to take long: their time, and how it grows with their length.
 use crate::builder::Builder;
+use crate::objects::Objects;
 use crate::timing::time_long;
 use checks::generator::frame::set;
 use reading::layout::{header, kind};
@@ -21,7 +22,7 @@ pub fn hostile() {
             one_list(it, &[b'A'; 51])
         }),
         ("one large payload in all entries", one_payload),
-        ("payloads of one kept place in turn", one_place),
+        ("payloads of one cache slot in turn", one_place),
         ("one entry with all DATA", one_entry),
     ];
     // The longest files take minutes, so they are for whoever asks: `bench hostile full`.
@@ -50,8 +51,9 @@ pub fn hostile() {
     }
 }
 
-fn builder(length: u64, keyed: bool) -> Builder {
-    Builder::new(length as usize, keyed, 1, 1)
+/// A file of one cell each.
+fn file(length: u64, keyed: bool) -> Objects {
+    Objects::new(length as usize, keyed, 1, 1)
 }
 
 /// A payload of 8 bytes, another for each number.
@@ -62,9 +64,9 @@ fn small(n: u64) -> Vec<u8> {
 }
 
 /// Objects with 8 bytes of payload or name, all on the chain of the one cell: where the filter can't
-/// tell that a hash is new, the object is held against all before it.
+/// tell that a hash is new, the object is compared with all before it.
 fn one_cell(length: u64, kind: u8, body: u64, table: u64) -> Vec<u8> {
-    let mut it = builder(length, false);
+    let mut it = file(length, false);
     let mut n = 0;
     while it.room() >= body + 8 {
         let at = it.hashed(kind, body, &small(n));
@@ -76,7 +78,7 @@ fn one_cell(length: u64, kind: u8, body: u64, table: u64) -> Vec<u8> {
 
 /// The same with DATA of different payloads and one hash, so that the filter never helps.
 fn one_hash(length: u64) -> Vec<u8> {
-    let mut it = builder(length, false);
+    let mut it = file(length, false);
     let mut n = 0;
     while it.room() >= 80 {
         let payload = hashed_to_0(n);
@@ -114,7 +116,7 @@ fn hashed_to_0(n: u32) -> Vec<u8> {
 /// Half of the file is an array, the other half DATA that count all of its items. No entry is
 /// committed, so that each item lies above the last.
 fn one_chain(length: u64) -> Vec<u8> {
-    let mut it = builder(length, false);
+    let mut it = file(length, false);
     let held = it.hashed(kind::DATA, 64, b"A=");
     let entry = it.entry(&[held], [1, 1, 1]);
     let items = length / 16;
@@ -133,7 +135,7 @@ fn one_chain(length: u64) -> Vec<u8> {
 
 /// Half of the file is one list of DATA, the other half FIELDs off their chain that all have it.
 fn one_list(length: u64, name: &[u8]) -> Vec<u8> {
-    let mut it = builder(length, false);
+    let mut it = file(length, false);
     let (mut n, mut head) = (0, 0);
     while it.room() >= length / 2 {
         let payload = [&name[1..], &small(n)[..]].concat();
@@ -151,7 +153,7 @@ fn one_list(length: u64, name: &[u8]) -> Vec<u8> {
 
 /// Half of a keyed file is one payload, the other half entries that hold it.
 fn one_payload(length: u64) -> Vec<u8> {
-    let mut it = builder(length, true);
+    let mut it = file(length, true);
     let mut payload = b"A=".to_vec();
     payload.resize(length as usize / 2, b'x');
     let data = it.hashed(kind::DATA, 64, &payload);
@@ -161,17 +163,17 @@ fn one_payload(length: u64) -> Vec<u8> {
 }
 
 /// Copies an object as often as there is room.
-fn copy_to_the_end(it: &mut Builder, first: usize, size: usize) {
+fn copy_to_the_end(it: &mut Objects, first: usize, size: usize) {
     while it.room() >= size as u64 {
         let at = it.object(it.image[first], size as u64) as usize;
         it.image.copy_within(first..first + size, at);
     }
 }
 
-/// Entries of a keyed file that hold two DATA of just below 1,024 bytes, 524,288 bytes apart: what is
-/// kept of the one's hash makes way for the other's.
+/// Entries of a keyed file that hold two DATA of just below 1,024 bytes, 524,288 bytes apart: in the
+/// cache of hashes each takes the other's slot.
 fn one_place(length: u64) -> Vec<u8> {
-    let mut it = builder(length, true);
+    let mut it = file(length, true);
     let mut payload = b"A=".to_vec();
     payload.resize(1023 - 64, b'x');
     let one = it.hashed(kind::DATA, 64, &payload);
@@ -186,14 +188,14 @@ fn one_place(length: u64) -> Vec<u8> {
 /// One committed entry that holds all DATA of the file.
 fn one_entry(length: u64) -> Vec<u8> {
     let mut it = Builder::new(length as usize, false, 65_536.min(length / 64), 1);
-    let count = (it.room() - 64 - 24 - 32 - 64) / (72 + 16) - 1;
+    let count = (it.objects.room() - 64 - 24 - 32 - 64) / (72 + 16) - 1;
     let payloads: Vec<Vec<u8>> = (0..count).map(small).collect();
     // The check of the room is generous, so the entry is put together here.
     let mut items = Vec::new();
     for payload in &payloads {
         items.push(it.held(payload));
     }
-    let entry = it.entry(&items, [1, 1, 1]);
+    let entry = it.objects.entry(&items, [1, 1, 1]);
     it.commit(&payloads, entry);
-    it.image
+    it.objects.image
 }

@@ -4,11 +4,11 @@
 #[cfg(measure)]
 use crate::measured::Opened;
 use crate::open::{filled, full};
+use crate::plain::{lookup, open::open};
 use crate::process::{journalctl, mean, spent};
 #[cfg(measure)]
 use crate::timing::{heading, row};
 use crate::timing::{measure_long, measure_one};
-use crate::{plain_lookup, plain_open};
 use checks::corpus;
 use checks::program;
 use std::ffi::OsStr;
@@ -168,11 +168,11 @@ fn reading(image: &[u8]) -> u64 {
 
 #[cfg(measure)]
 fn plain_reading(image: &[u8]) -> u64 {
-    assert_eq!(plain_open::open(image), 0);
+    assert_eq!(open(image), 0);
     (0..)
-        .map(|place| plain_lookup::entry(image, place))
+        .map(|place| lookup::entry(image, place))
         .take_while(|&entry| entry != 0)
-        .map(|entry| plain_lookup::stamps(image, entry).seqnum)
+        .map(|entry| lookup::stamps(image, entry).seqnum)
         .sum()
 }
 
@@ -184,15 +184,15 @@ fn list(input: &Path) -> Command {
 
 /// What the program prints for an image that opens.
 fn plain_listing(image: &[u8]) -> String {
-    assert_eq!(plain_open::open(image), 0);
+    assert_eq!(open(image), 0);
     let mut text = "seqnum realtime monotonic fields\n".to_string();
     let mut place = 0;
     loop {
-        let entry = plain_lookup::entry(image, place);
+        let entry = lookup::entry(image, place);
         if entry == 0 {
             break;
         }
-        let it = plain_lookup::stamps(image, entry);
+        let it = lookup::stamps(image, entry);
         let (seqnum, realtime, monotonic) = (it.seqnum, it.realtime, it.monotonic);
         writeln!(text, "{seqnum} {realtime} {monotonic} {}", it.items).expect("a string has room");
         place += 1;

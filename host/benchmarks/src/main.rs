@@ -4,6 +4,7 @@
 //!
 //! A ratio of 1.0 or more means that the archive is at least as fast as plain Rust.
 mod append;
+mod asked;
 mod builder;
 mod frame;
 mod hostile;
@@ -11,10 +12,9 @@ mod listing;
 mod lookups;
 #[cfg(measure)]
 mod measured;
+mod objects;
 mod open;
 mod plain;
-mod plain_lookup;
-mod plain_open;
 mod process;
 mod timing;
 

@@ -1,7 +1,7 @@
 //! Opening files of the greatest length, full of entries as a seed store's controllers log them:
 //! the archive against plain Rust with the same passes, and journalctl's check of the same file.
 use crate::builder::Builder;
-use crate::plain_open;
+use crate::plain::open::open as plain_open;
 use crate::process::{self, time};
 use crate::timing::{heading, measure_long, row};
 use checks::generator::any::any;
@@ -24,7 +24,7 @@ pub fn open() {
         full(false, 65_536),
         full(true, 65_536),
     ];
-    let plain: fn(&[u8]) -> u64 = black_box(plain_open::open);
+    let plain: fn(&[u8]) -> u64 = black_box(plain_open);
     heading("open");
     for Full { label, image } in &full {
         assert_eq!(raw::open(image), 0);
@@ -43,7 +43,7 @@ pub fn open() {
 fn same_answers() {
     for seed in 0..10_000 {
         let image = any(&mut Random::new(seed));
-        assert_eq!(plain_open::open(&image), raw::open(&image));
+        assert_eq!(plain_open(&image), raw::open(&image));
     }
 }
 
@@ -96,10 +96,10 @@ pub fn filled(length: usize, keyed: bool, data_cells: u64, field_cells: u64) -> 
 fn fill(mut builder: Builder, left: u64) -> (u64, Vec<u8>) {
     let random = &mut Random::new(3);
     let mut n = 0;
-    while builder.room() >= left && builder.append(&payloads(random, n), facts(n)) {
+    while builder.objects.room() >= left && builder.append(&payloads(random, n), facts(n)) {
         n += 1;
     }
-    (n, builder.image)
+    (n, builder.objects.image)
 }
 
 /// `journalctl --verify` of the same files, less what starting it takes; the best of some runs.

@@ -1,42 +1,11 @@
-//! The lookups in plain Rust, written for speed, with the archive's ways through a file: arrays are
-//! passed as a whole, sequence numbers and offsets searched by halves, wall times asked in order,
-//! payloads and names found through their cells. Each of these wants an image that opens.
-use super::plain::{u32_at, u64_at};
+//! The lookups: arrays are passed as a whole, sequence numbers and offsets found by binary search, wall
+//! times asked in order, payloads and names found through their cells. Each of these wants an image
+//! that opens.
+use super::arrays::{binary_search, committed, last_committed, Arrays};
+use super::bytes::{u32_at, u64_at};
 use reading::lookup3::hashlittle2;
 use reading::siphash::siphash24;
 use wrapper::raw::{Part, Stamps};
-
-/// The first items of a chain of arrays, array by array.
-struct Arrays<'a> {
-    image: &'a [u8],
-    array: usize,
-    left: u64,
-}
-
-impl<'a> Iterator for Arrays<'a> {
-    type Item = &'a [u8];
-
-    #[inline(always)]
-    fn next(&mut self) -> Option<&'a [u8]> {
-        if self.left == 0 {
-            return None;
-        }
-        let at = self.array;
-        let n = ((u64_at(self.image, at + 8) - 24) / 8).min(self.left);
-        self.left -= n;
-        self.array = u64_at(self.image, at + 16) as usize;
-        Some(&self.image[at + 24..at + 24 + 8 * n as usize])
-    }
-}
-
-#[inline(always)]
-fn committed(image: &[u8]) -> Arrays<'_> {
-    Arrays {
-        image,
-        array: u64_at(image, 176) as usize,
-        left: u64_at(image, 152),
-    }
-}
 
 pub fn entry(image: &[u8], place: u64) -> u64 {
     if place >= u64_at(image, 152) {
@@ -52,30 +21,8 @@ pub fn entry(image: &[u8], place: u64) -> u64 {
     0
 }
 
-/// The first item for which something holds, where it holds for all behind that one.
-#[inline(always)]
-fn by_halves(image: &[u8], holds: impl Fn(u64) -> bool) -> u64 {
-    for items in committed(image) {
-        let n = items.len() / 8;
-        if !holds(u64_at(items, 8 * (n - 1))) {
-            continue;
-        }
-        let (mut low, mut high) = (0, n - 1);
-        while low < high {
-            let middle = (low + high) / 2;
-            if holds(u64_at(items, 8 * middle)) {
-                high = middle;
-            } else {
-                low = middle + 1;
-            }
-        }
-        return u64_at(items, 8 * low);
-    }
-    0
-}
-
 pub fn by_seqnum(image: &[u8], seqnum: u64) -> u64 {
-    by_halves(image, |entry| u64_at(image, entry as usize + 16) >= seqnum)
+    binary_search(image, |entry| u64_at(image, entry as usize + 16) >= seqnum)
 }
 
 pub fn by_realtime(image: &[u8], realtime: u64) -> u64 {
@@ -109,11 +56,6 @@ fn find(image: &[u8], table: usize, body: usize, bytes: &[u8]) -> usize {
         at = u64_at(image, at + 24) as usize;
     }
     0
-}
-
-fn last_committed(image: &[u8]) -> u64 {
-    let last = committed(image).last();
-    last.map_or(0, |items| u64_at(items, items.len() - 8))
 }
 
 /// The entry at a place in a DATA's list, 0 if none.
@@ -165,7 +107,7 @@ fn payload(image: &[u8], data: usize) -> Part {
 
 /// The size of a committed entry; none at any other offset.
 fn committed_size(image: &[u8], entry: u64) -> Option<u64> {
-    let found = by_halves(image, |other| other >= entry);
+    let found = binary_search(image, |other| other >= entry);
     (found == entry && found != 0).then(|| u64_at(image, entry as usize + 8))
 }
 

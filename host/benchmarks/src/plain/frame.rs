@@ -1,15 +1,5 @@
-//! Refusals 1 to 7 and the object map in plain Rust, written for speed.
-
-pub const HEADER_LENGTH: usize = 256;
-pub const LONGEST_IMAGE: usize = 8_388_608;
-
-pub fn u32_at(bytes: &[u8], at: usize) -> u32 {
-    u32::from_le_bytes(bytes[at..at + 4].try_into().expect("four bytes"))
-}
-
-pub fn u64_at(bytes: &[u8], at: usize) -> u64 {
-    u64::from_le_bytes(bytes[at..at + 8].try_into().expect("eight bytes"))
-}
+//! Refusals 1 to 7 and the object map.
+use super::bytes::{next, u32_at, u64_at, HEADER_LENGTH, LONGEST_IMAGE};
 
 /// Refusals 1 to 7: a pass over the objects for 6 and one for 7.
 pub fn refusal(image: &[u8]) -> u64 {
@@ -156,11 +146,6 @@ fn object_fault(arena: &[u8], at: usize) -> bool {
         _ => size < 16,
     };
     wrong || head[1] & 7 != 0 || size > (arena.len() - at) as u64
-}
-
-#[inline]
-pub fn next(arena: &[u8], at: usize) -> usize {
-    at + (u64_at(arena, at + 8) as usize + 7) / 8 * 8
 }
 
 fn tables_fault(arena: &[u8], tail: u64) -> bool {
