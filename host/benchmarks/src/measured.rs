@@ -1,4 +1,6 @@
 //! The exports of the benchmark's own archive as safe functions.
+#![allow(unsafe_code)]
+
 use wrapper::{call, open};
 
 /// Refusals 1 to 7 and then the object map. The refusal, or 8 and the map's number for the object

@@ -1,6 +1,8 @@
 //! What the system offers and the standard library does not: mapped files, blocks for a file, local
-//! time, the monotonic clock and signals. The functions of the C library are declared by hand, as on
-//! Linux on x86-64, and this file has all of the program's `unsafe`.
+//! time, the monotonic clock and signals. The functions of the C library are declared by hand, as
+//! on Linux on x86-64, and this file has all of the program's `unsafe`.
+#![allow(unsafe_code)]
+
 use raw::{Local, Timespec};
 use std::ffi::c_void;
 use std::fs::File;
@@ -11,8 +13,8 @@ use std::ptr::{null, null_mut};
 mod raw {
     use std::ffi::{c_char, c_int, c_long, c_void};
 
-    /// `struct tm`. Months count from 0 and years from 1900; `east` are the seconds that local time is
-    /// ahead of UTC.
+    /// `struct tm`. Months count from 0 and years from 1900; `east` are the seconds that local time
+    /// is ahead of UTC.
     #[repr(C)]
     pub struct Local {
         pub second: c_int,

@@ -1,4 +1,6 @@
 //! Refusals 1 to 7 alone, which no host asks for.
+#![allow(unsafe_code)]
+
 use crate::call;
 
 /// The lowest of refusals 1 to 7 that applies to the image, or 0.

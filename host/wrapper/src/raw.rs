@@ -1,8 +1,11 @@
-//! The archive's calls as safe functions, with the numbers that they answer. Each export is declared here once;
-//! a function only passes its arguments on, so that what is tested and measured through it is the archive
-//! itself. Hosts use the functions of the same names in the package's root, whose answers have types.
+//! The archive's calls as safe functions, with the numbers that they answer. Each export is
+//! declared here once; a function only passes its arguments on, so that what is tested and measured
+//! through it is the archive itself. Hosts use the functions of the same names in the package's
+//! root, whose answers have types.
 //!
 //! SAFETY of each call: as `call` has it. `read` and `array` arguments are only read.
+#![allow(unsafe_code)]
+
 use crate::call;
 
 /// A part of the image by its place and length, both 0 for the empty part.
@@ -13,7 +16,8 @@ pub struct Part {
     pub len: u64,
 }
 
-/// What a committed entry says of itself, and the number of its items; all 0 where there is no such entry.
+/// What a committed entry says of itself, and the number of its items; all 0 where there is no such
+/// entry.
 #[repr(C)]
 #[derive(Clone, Copy, Debug, Default, PartialEq, Eq)]
 pub struct Stamps {
@@ -25,8 +29,9 @@ pub struct Stamps {
     pub items: u64,
 }
 
-/// What a page call answers: the image's refusal, and nothing else; or the number of records at the front of
-/// the page, and the length in bytes of the first one that found no room, 0 if none is left.
+/// What a page call answers: the image's refusal, and nothing else; or the number of records at the
+/// front of the page, and the length in bytes of the first one that found no room, 0 if none is
+/// left.
 #[repr(C)]
 #[derive(Clone, Copy, Debug, Default, PartialEq, Eq)]
 pub struct Page {
@@ -88,7 +93,8 @@ pub fn by_payload(image: &[u8], payload: &[u8], place: u64) -> u64 {
     unsafe { call!(journal_by_payload(read image, read payload, number place) -> u64) }
 }
 
-/// The payload of an entry's item, by place; the empty part where there is none, or the image is refused.
+/// The payload of an entry's item, by place; the empty part where there is none, or the image is
+/// refused.
 #[inline]
 pub fn item(image: &[u8], entry: u64, place: u64) -> Part {
     unsafe { call!(journal_item(read image, number entry, number place) -> Part) }
@@ -106,14 +112,15 @@ pub fn stamps(image: &[u8], entry: u64) -> Stamps {
     unsafe { call!(journal_stamps(read image, number entry) -> Stamps) }
 }
 
-/// The records of the committed entries from a place on, as many as the page has room for. Where the image is
-/// refused, and after the records, the page is as it was.
+/// The records of the committed entries from a place on, as many as the page has room for. Where
+/// the image is refused, and after the records, the page is as it was.
 #[inline]
 pub fn page_entries(image: &[u8], place: u64, page: &mut [u8]) -> Page {
     unsafe { call!(journal_page_entries(read image, number place, write page) -> Page) }
 }
 
-/// The records of the committed entries that hold a payload, from a place on: answers as `page_entries`.
+/// The records of the committed entries that hold a payload, from a place on: answers as
+/// `page_entries`.
 #[inline]
 pub fn page_matches(image: &[u8], payload: &[u8], place: u64, page: &mut [u8]) -> Page {
     unsafe {
@@ -128,8 +135,8 @@ pub fn page_values(image: &[u8], name: &[u8], place: u64, page: &mut [u8]) -> Pa
     unsafe { call!(journal_page_values(read image, read name, number place, write page) -> Page) }
 }
 
-/// Makes a new file of all of `image`, with file, machine, boot and seqnum id one after the other in `ids`, keyed
-/// by 1 and not by 0: 0; or 20, and no byte changes.
+/// Makes a new file of all of `image`, with file, machine, boot and seqnum id one after the other
+/// in `ids`, keyed by 1 and not by 0: 0; or 20, and no byte changes.
 #[inline]
 pub fn new(image: &mut [u8], ids: &[u8; 64], data_cells: u64, field_cells: u64, keyed: u64) -> u64 {
     unsafe {
@@ -145,8 +152,8 @@ pub fn carry_out(image: &mut [u8], stores: &[u8], k: u64) -> u64 {
     unsafe { call!(journal_carry_out(write image, read stores, number k) -> u64) }
 }
 
-/// Works out the stores of an append, to the front of the list, 16 bytes each: the refusal, and 256 times a
-/// number of stores. The image is not written: `carry_out` does that.
+/// Works out the stores of an append, to the front of the list, 16 bytes each: the refusal, and 256
+/// times a number of stores. The image is not written: `carry_out` does that.
 #[inline]
 pub fn plan(image: &[u8], request: &Request, stores: &mut [u8]) -> u64 {
     let Request {
