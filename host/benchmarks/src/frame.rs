@@ -66,7 +66,10 @@ fn map(full: &[Full]) {
 
 #[cfg(not(measure))]
 fn map(_: &[Full]) {
-    println!("the object map is measured after `rt staticlib measure`");
+    println!(
+        "the object map is measured after `rt staticlib {}`",
+        env!("ARCHIVE")
+    );
 }
 
 /// An image of the greatest length, full of objects of these types, each with a size from one to

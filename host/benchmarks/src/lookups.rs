@@ -80,5 +80,8 @@ fn alone(image: &[u8], asked: &[(&str, Asked)]) {
 
 #[cfg(not(measure))]
 fn alone(_: &[u8], _: &[(&str, Asked)]) {
-    println!("lookups without opening are measured after `rt staticlib measure`");
+    println!(
+        "lookups without opening are measured after `rt staticlib {}`",
+        env!("ARCHIVE")
+    );
 }

@@ -36,7 +36,7 @@ pub fn mean(runs: u32, command: impl Fn() -> Command) -> Option<Duration> {
 /// What the processor spent on all programs that this one has waited for, in hundredths of a second.
 fn spent_on_all() -> Option<Duration> {
     let text = std::fs::read_to_string("/proc/self/stat").ok()?;
-    // The name stands in parentheses; cutime and cstime are the 14th and 15th word behind it.
+    // The name stands in parentheses; cutime and cstime are the 14th and 15th word after it.
     let words: Vec<&str> = text.rsplit(')').next()?.split_whitespace().collect();
     let ticks = |place: usize| words.get(place)?.parse::<u64>().ok();
     Some(Duration::from_millis(10 * (ticks(13)? + ticks(14)?)))
@@ -68,7 +68,7 @@ fn spent_once(mut command: Command) -> Option<f64> {
 /// The nanoseconds that the processor spent on a process which ends and is not waited for yet.
 fn at_its_end(child: &Child) -> Option<u64> {
     let read = |file: &str| std::fs::read_to_string(format!("/proc/{}/{file}", child.id())).ok();
-    // The state stands behind the name, which is in parentheses.
+    // The state stands after the name, which is in parentheses.
     while !read("stat")?.rsplit(')').next()?.starts_with(" Z") {
         std::thread::sleep(Duration::from_micros(50));
     }

@@ -22,8 +22,8 @@ pub fn refusal_in_one_pass(image: &[u8]) -> u64 {
     in_one_pass(image, |_, _| {})
 }
 
-/// Refusals 1 to 7, and then a pass that makes the object map in an array of its own: the refusal, or
-/// 8 and the map's number for the object at `at`.
+/// Refusals 1 to 7, and then a pass that makes the object map in an array of its own: the refusal,
+/// or 8 and the map's number for the object at `at`.
 #[cfg(measure)]
 pub fn map(image: &[u8], at: u64) -> u64 {
     match refusal(image) {

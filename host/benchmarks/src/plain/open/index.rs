@@ -1,5 +1,5 @@
-//! Refusal 11: chains with a filter of hashes and marks, FIELDs' lists with marks, and what committed
-//! entries hold.
+//! Refusal 11: chains with a filter of hashes and marks, FIELDs' lists with marks, and what
+//! committed entries hold.
 use super::map::{Open, CHAINED, COMMITTED, FIELD, LISTED, SEEN};
 use crate::plain::bytes::{name_length, next, u64_at, HEADER_LENGTH};
 

@@ -1,5 +1,5 @@
-//! Refusals 1 to 11: the walk and the map, links by the map, the committed entries, lists by counting,
-//! hashes, chains and lists.
+//! Refusals 1 to 11: the walk and the map, links by the map, the committed entries, lists by
+//! counting, hashes, chains and lists.
 mod hashes;
 mod index;
 mod links;
