@@ -1,5 +1,5 @@
-//! `append`: one entry more. The library works out the stores; they are carried out on the mapped file
-//! group by group, with a sync behind each, as the page for those who write a host has it.
+//! `append`: one entry more. The library works out the stores; they are carried out on the mapped
+//! file group by group, with a sync after each, as the page for those who write a host has it.
 use crate::fault::{said, Fault};
 use crate::ids::{self, Id};
 use crate::system::{self, Mapped};
@@ -34,7 +34,7 @@ pub fn append(path: &Path, wish: &Wish, out: &mut impl Write) -> Result<(), Faul
     let request = Request {
         machine: &wish.machine.map_or_else(ids::machine, Ok)?,
         boot: &wish.boot.map_or_else(ids::boot, Ok)?,
-        // Behind the greatest number there is none: 17.
+        // After the greatest number there is none: 17.
         seqnum: wish
             .seqnum
             .unwrap_or(last.map_or(0, |entry| entry.seqnum).saturating_add(1)),
@@ -45,7 +45,7 @@ pub fn append(path: &Path, wish: &Wish, out: &mut impl Write) -> Result<(), Faul
     let list = planned(&image, &request).map_err(|refusal| refused(path, refusal, &image, last))?;
 
     // From here on the file is written. Its blocks come first: a store to a mapped hole on a full
-    // disk would end the program in the midst of the append.
+    // disk would end the program in the middle of the append.
     let fault = |error| Fault::system(path, &error);
     system::allocate(&file, image.len()).map_err(fault)?;
     let mut mapped = Mapped::new(&file, image.len()).map_err(fault)?;

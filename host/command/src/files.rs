@@ -1,8 +1,8 @@
 //! A journal file on disk: opened, locked and read whole.
 //!
-//! An appender holds the file's lock (`flock`) alone, readers share it, so that no reader's copy has
-//! half of an append. Each waits a little for the others and then gives up. Programs that do not
-//! go by this lock, as journald, are not seen.
+//! An appender holds the file's lock (`flock`) alone, readers share it, so that no reader's copy
+//! has half of an append. Each waits a little for the others and then gives up. Programs that do
+//! not go by this lock, as journald, are not seen.
 use crate::fault::Fault;
 use std::fs::{File, OpenOptions, TryLockError};
 use std::io::Read;
@@ -43,7 +43,8 @@ pub fn lock(path: &Path, file: &File) -> Result<(), Fault> {
     }
 }
 
-/// Opens what is a file. Others are not opened at all: a pipe would wait for somebody to write to it.
+/// Opens what is a file. Others are not opened at all: a pipe would wait for somebody to write to
+/// it.
 fn opened(path: &Path, options: &OpenOptions) -> Result<File, Fault> {
     let facts = std::fs::metadata(path).map_err(|error| Fault::system(path, &error))?;
     if facts.is_dir() {

@@ -1,5 +1,5 @@
-//! `journal`: lists, searches and checks journal files, makes them and appends to them. `./run` in the
-//! repository's root builds it and runs it; `./run --help` says how it is used.
+//! `journal`: lists, searches and checks journal files, makes them and appends to them. `./run` in
+//! the repository's root builds it and runs it; `./run --help` says how it is used.
 //!
 //! What a file holds and what an append does is told by the proved archive. This program has what
 //! such a library leaves to its host: files, locks, syncs, clocks, ids, words and columns.

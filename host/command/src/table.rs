@@ -4,7 +4,7 @@ use crate::{ids, times};
 use std::io::{Result, Write};
 use wrapper::Entry;
 
-/// The part of a payload behind the first `=`.
+/// The part of a payload after the first `=`.
 pub fn value(payload: &[u8]) -> &[u8] {
     let name = payload
         .split(|&byte| byte == b'=')

@@ -1,8 +1,8 @@
 //! Bytes as a person can read them, on one line and without harm to a terminal.
 
-/// Printing characters stand for themselves, but a backslash is `\\`. Every byte of anything else is
-/// `\xNN`: control characters with newlines and tabs, characters that are not seen or turn the line
-/// around, and bytes that are no UTF-8. So no two byte strings are shown alike.
+/// Printing characters stand for themselves, but a backslash is `\\`. Every byte of anything else
+/// is `\xNN`: control characters with newlines and tabs, characters that are not seen or turn the
+/// line around, and bytes that are no UTF-8. So no two byte strings are shown alike.
 pub fn shown(bytes: &[u8]) -> String {
     let mut text = String::with_capacity(bytes.len());
     for chunk in bytes.utf8_chunks() {
@@ -25,7 +25,7 @@ fn hex(text: &mut String, bytes: &[u8]) {
 }
 
 /// Whether a character is seen on paper. Beyond ASCII the standard library knows: its escaping for
-/// debugging leaves such a character alone, behind another one also if it is an accent.
+/// debugging leaves such a character alone, after another one also if it is an accent.
 fn prints(character: char) -> bool {
     match character {
         ' '..='~' => true,

@@ -4,7 +4,8 @@ use crate::system;
 const MICROSECONDS: u64 = 1_000_000;
 const DAY: i64 = 86_400;
 
-/// Local time with its microseconds and how far it is ahead of UTC: `2023-11-14 23:13:20.000001 +0100`.
+/// Local time with its microseconds and how far it is ahead of UTC: `2023-11-14 23:13:20.000001
+/// +0100`.
 pub fn shown(realtime: u64) -> String {
     let (seconds, fraction) = (realtime / MICROSECONDS, realtime % MICROSECONDS);
     let Some(local) = system::local(seconds as i64) else {
@@ -50,8 +51,8 @@ pub fn parsed(text: &str) -> Result<u64, String> {
 
 const FORM: &str = "it is microseconds, or like 'YYYY-MM-DD HH:MM:SS'";
 
-/// The instant of a local time, as seconds without a zone. Where the clock was put back, a time comes
-/// twice; where it was put forward, some never come.
+/// The instant of a local time, as seconds without a zone. Where the clock was put back, a time
+/// comes twice; where it was put forward, some never come.
 fn from_local(naive: i64) -> Result<i64, String> {
     let east = |at: i64| system::local(at).map(|local| local.east);
     // Zones are at most a day from UTC, and change their clocks less often than every other day.
@@ -68,8 +69,8 @@ fn from_local(naive: i64) -> Result<i64, String> {
     }
 }
 
-/// `YYYY-MM-DD` and `HH:MM:SS`, with up to six digits of a fraction behind a point: seconds since 1970
-/// as if it were UTC, and microseconds.
+/// `YYYY-MM-DD` and `HH:MM:SS`, with up to six digits of a fraction after a point: seconds since
+/// 1970 as if it were UTC, and microseconds.
 fn naive(date: &str, time: &str) -> Option<(i64, u64)> {
     let [year, month, day] = numbers(date, '-', [4..=6, 2..=2, 2..=2])?;
     let (time, fraction) = match time.split_once('.') {

@@ -8,22 +8,18 @@ use super::{lookup3::hashlittle2, siphash::siphash24};
 
 /// The 64-bit number at a place.
 pub fn le64(bytes: &[u8], at: u64) -> u64 {
-    let at = at as usize;
-    let mut value = 0u64;
-    for i in 0..8 {
-        value |= (bytes[at + i] as u64) << (8 * i);
-    }
-    value
+    little_endian(bytes, at, 8)
 }
 
 /// The 32-bit number at a place.
 pub fn le32(bytes: &[u8], at: u64) -> u32 {
+    little_endian(bytes, at, 4) as u32
+}
+
+/// The number in so many bytes from a place on.
+fn little_endian(bytes: &[u8], at: u64, count: usize) -> u64 {
     let at = at as usize;
-    let mut value = 0u32;
-    for i in 0..4 {
-        value |= (bytes[at + i] as u32) << (8 * i);
-    }
-    value
+    (0..count).fold(0, |value, i| value | (bytes[at + i] as u64) << (8 * i))
 }
 
 /// The 16 bytes of an id at a place.

@@ -32,7 +32,7 @@ pub fn new_file(image: &mut [u8], new: &NewFile) -> u64 {
     if new.keyed != 0 && new.keyed != 1 {
         return 20;
     }
-    // "Data table first": behind it the field table.
+    // "Data table first": after it the field table.
     let data_table = 256;
     let data_size = 16 + 16 * new.data_cells;
     let field_table = data_table + data_size;

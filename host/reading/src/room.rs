@@ -124,7 +124,7 @@ pub fn places<'a>(image: &Image, payloads: &[&'a [u8]]) -> Places<'a> {
     }
 }
 
-/// The place in a chain of arrays behind so many items. "First array 4 items, a later one twice
+/// The place in a chain of arrays after so many items. "First array 4 items, a later one twice
 /// the one before, at most 65,536."
 fn slot(image: &Image, room: &mut Room, first: u64, counted: u64) -> Slot {
     let offset = image.word(first);

@@ -1,7 +1,9 @@
-//! A safe wrapper over `libjournal.a`, the proved archive: each of its calls as a function of the same name without
-//! the prefix `journal_`, with slices as arguments and with answers that have types.
+//! A safe wrapper over `libjournal.a`, the proved archive: each of its calls as a function of the
+//! same name without the prefix `journal_`, with slices as arguments and with answers that have
+//! types.
 //!
-//! `raw` has the same functions with the numbers that the archive answers, and all `unsafe` calls into it.
+//! `raw` has the same functions with the numbers that the archive answers. It and `framed`, which
+//! only tests and measurements have a use for, make all `unsafe` calls into the archive.
 //! `groups` tells where to sync in an append.
 mod call;
 pub mod framed;

@@ -44,7 +44,8 @@ pub fn by_payload(image: &[u8], payload: &[u8], place: u64) -> Result<Option<Off
     found(raw::by_payload(image, payload, place))
 }
 
-/// The payload of an entry's item, by place from 0, as a part of the image. None also where the image is refused.
+/// The payload of an entry's item, by place from 0, as a part of the image. None also where the
+/// image is refused.
 pub fn item(image: &[u8], entry: Offset, place: u64) -> Option<&[u8]> {
     shown(image, raw::item(image, entry.0, place))
 }

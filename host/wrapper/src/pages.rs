@@ -1,14 +1,14 @@
 //! Pages: the records of many entries, or of many values, by one call that opens the image once.
 //!
-//! A record is words of eight bytes, little-endian. Of an entry: its offset, sequence number, wall time, monotonic
-//! time, the two words of its boot id, the number of its items, and for each item the place and the length of
-//! its payload. Of a value: its place and length.
+//! A record is words of eight bytes, little-endian. Of an entry: its offset, sequence number, wall
+//! time, monotonic time, the two words of its boot id, the number of its items, and for each item
+//! the place and the length of its payload. Of a value: its place and length.
 use crate::lookups::Offset;
 use crate::raw;
 use crate::refusal::Refusal;
 
-/// What is in a page: the number of records at its front, and the length in bytes of the first one that found no
-/// room, 0 if none is left. Its other bytes are as they were.
+/// What is in a page: the number of records at its front, and the length in bytes of the first one
+/// that found no room, 0 if none is left. Its other bytes are as they were.
 #[derive(Clone, Copy, Debug, PartialEq, Eq)]
 pub struct Page {
     pub count: u64,

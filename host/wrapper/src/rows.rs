@@ -1,5 +1,5 @@
-//! The refusals 1 to 21 in words: for each a sentence for a person, and the condition as it stands in the
-//! rules' tables.
+//! The refusals 1 to 21 in words: for each a sentence for a person, and the condition as it stands
+//! in the rules' tables.
 
 pub const ROWS: [(&str, &str); 21] = [
     (

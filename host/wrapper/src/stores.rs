@@ -24,8 +24,8 @@ impl Planned {
     }
 }
 
-/// Makes a new file of all of `image`, with file, machine, boot and seqnum id one after the other in `ids`; or 20,
-/// and no byte changes.
+/// Makes a new file of all of `image`, with file, machine, boot and seqnum id one after the other
+/// in `ids`; or 20, and no byte changes.
 pub fn new(
     image: &mut [u8],
     ids: &[u8; 64],
@@ -37,8 +37,8 @@ pub fn new(
     Refusal::check(raw::new(image, ids, data_cells, field_cells, keyed))
 }
 
-/// Works out the stores of an append, to the front of the list, 16 bytes each. The image is not written:
-/// `carry_out` does that.
+/// Works out the stores of an append, to the front of the list, 16 bytes each. The image is not
+/// written: `carry_out` does that.
 pub fn plan(image: &[u8], request: &Request, stores: &mut [u8]) -> Planned {
     let answer = raw::plan(image, request, stores);
     // The refusal and 256 times the number of stores. Any other refusal than 19 stands alone.

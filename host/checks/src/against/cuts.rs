@@ -1,6 +1,6 @@
-//! Every cut of an append through the archive: "A cut at k, from 0 to the count, leaves the image on
-//! which the append was worked out, with the first k stores of its list carried out". Up to the
-//! commit store the answers are those from before the append, then those from behind it.
+//! Every cut of an append through the archive: "A cut at k, from 0 to the count, leaves the image
+//! on which the append was worked out, with the first k stores of its list carried out". Up to the
+//! commit store the answers are those from before the append, then those from after it.
 use std::collections::BTreeSet;
 
 use super::lookups::{archive, read, read_stamps, Words};
@@ -53,7 +53,7 @@ pub(super) fn said<'a>(image: &'a [u8], asked: &Asked) -> Option<Said<'a>> {
     }
 }
 
-/// What the archive says to all that is asked, each held against the reading.
+/// What the archive says to all that is asked, each compared with the reading.
 pub(super) fn all<'a>(journal: &Journal<'a>, asked: &[Asked]) -> Result<Vec<Said<'a>>, String> {
     let mut all = Vec::new();
     for asked in asked {
@@ -88,8 +88,8 @@ pub(super) fn questions(before: &Journal, after: &Journal) -> Vec<Asked> {
 }
 
 /// The append is worked out and carried out by the archive. At each cut the image opens, and one
-/// question in `step` is asked, beginning with another one at each cut. The refusal where the append
-/// is not taken.
+/// question in `step` is asked, beginning with another one at each cut. The refusal where the
+/// append is not taken.
 pub fn cuts(
     image: &[u8],
     request: Request,
@@ -163,7 +163,7 @@ fn cut(image: &[u8], list: &[u8], k: u64) -> Result<Vec<u8>, String> {
     }
 }
 
-/// Behind the append there is one entry more, with what was asked for.
+/// After the append there is one entry more, with what was asked for.
 fn the_new_entry(before: &Journal, after: &Journal, request: &Request) -> Result<(), String> {
     let image = after.image.bytes;
     let place = before.n_entries();

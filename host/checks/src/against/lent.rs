@@ -1,7 +1,7 @@
-//! Bytes to lend, in the midst of others.
+//! Bytes to lend, amid others.
 use std::hint::black_box;
 
-/// Bytes at an alignment that a number gives, with other bytes before and behind.
+/// Bytes at an alignment that a number gives, with other bytes before and after.
 pub struct Lent {
     buffer: Vec<u8>,
     start: usize,
@@ -37,8 +37,8 @@ impl Lent {
     pub fn after(&mut self) -> Option<&[u8]> {
         // The compiler may take what it lent as unchanged; this makes it look at the bytes again.
         black_box(&mut self.buffer);
-        let (before, behind) = (&self.buffer[..self.start], &self.buffer[self.end..]);
+        let (before, after) = (&self.buffer[..self.start], &self.buffer[self.end..]);
         let same = |byte: &u8| *byte == self.around;
-        (before.iter().all(same) && behind.iter().all(same)).then(|| self.bytes())
+        (before.iter().all(same) && after.iter().all(same)).then(|| self.bytes())
     }
 }

@@ -1,4 +1,5 @@
-//! The archive held against the reading, for tests and long runs. What differs comes back as a text.
+//! The archive compared with the reading, for tests and long runs. What differs comes back as a
+//! text.
 pub mod cuts;
 pub mod lent;
 pub mod lookups;

@@ -1,5 +1,5 @@
-//! What a disk may hold where a host syncs as `groups::syncs` has it and no more often: all stores up to
-//! one sync, and of those up to the next one any, in any order.
+//! The crash states of a disk where a host syncs as `groups::syncs` has it and no more often: all
+//! stores up to one sync, and of those up to the next one any, in any order.
 use super::cuts::{all, questions, said};
 use super::plan::{number, Append};
 use crate::generator::dice::{shuffle, some_of};
@@ -10,8 +10,8 @@ use reading::request::Request;
 use wrapper::groups::{groups, syncs};
 use wrapper::raw::{self, carry_out};
 
-/// Some of the stores before each sync, so often for each, on all before them: the image opens, and one
-/// question in `step` is answered as before the append, or from group 7 on as behind it. The
+/// Some of the stores before each sync, so often for each, on all before them: the image opens, and
+/// one question in `step` is answered as before the append, or from group 7 on as after it. The
 /// number of images, or the refusal where the append is not taken.
 pub fn orders(
     image: &[u8],

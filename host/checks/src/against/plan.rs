@@ -101,7 +101,7 @@ pub fn number(planned: &Planned) -> u64 {
     planned.refusal().map_or(0, Refusal::number)
 }
 
-/// Where two lists differ: the store, or a byte behind the stores.
+/// Where two lists differ: the store, or a byte after the stores.
 fn first_difference(planned: &Planned, list: &[u8], should: &[u8]) -> String {
     let is = stores(list);
     for (n, (is, should)) in is.iter().zip(stores(should)).enumerate() {
@@ -109,5 +109,5 @@ fn first_difference(planned: &Planned, list: &[u8], should: &[u8]) -> String {
             return format!("{planned:?}: store {n} is {is:?}, and not {should:?}");
         }
     }
-    format!("{planned:?}: a byte behind the last store changed")
+    format!("{planned:?}: a byte after the last store changed")
 }

@@ -67,9 +67,10 @@ impl Tried {
         self.image(image).first().map_or(0, |clause| clause.number)
     }
 
-    /// Targeted mutations for each clause, this many times by its number. A clause is alone where no
-    /// other of its number applies and nothing else was mutated. It is combined where another one
-    /// of its number applies too, or where there are mutations for higher numbers in the same image.
+    /// Targeted mutations for each clause, this many times by its number. A clause is alone where
+    /// no other of its number applies and nothing else was mutated. It is combined where another
+    /// one of its number applies too, or where there are mutations for higher numbers in the same
+    /// image.
     pub fn every_clause(&mut self, rounds: fn(u64) -> u64) {
         let (mut alone, mut together) = (BTreeMap::new(), BTreeMap::new());
         let mut all = CLAUSES.to_vec();

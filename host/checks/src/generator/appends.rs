@@ -50,7 +50,7 @@ fn end_of(image: &[u8], asked: &Asked) -> u64 {
     places(&Image::walked(image), &payloads).end as u64
 }
 
-/// The image with its arena ending elsewhere, and 0 to 7 bytes behind it.
+/// The image with its arena ending elsewhere, and 0 to 7 bytes after it.
 fn with_arena_to(image: &[u8], end: u64) -> Vec<u8> {
     let mut image = image.to_vec();
     image.resize((end + end / 8 % 8) as usize, 0);

@@ -2,7 +2,7 @@
 //! whose bytes but the type and the size are 0. Refusals 1 to 7 do not apply; later ones may.
 use reading::layout::{header, kind, table, FIRST_OBJECT, SIGNATURE};
 
-/// Objects of these types and sizes behind the tables; sizes that their types can have.
+/// Objects of these types and sizes after the tables; sizes that their types can have.
 pub fn frame(objects: &[(u8, u64)]) -> Vec<u8> {
     let mut image = vec![0; FIRST_OBJECT as usize];
     image[..8].copy_from_slice(&SIGNATURE);

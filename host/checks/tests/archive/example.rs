@@ -19,7 +19,7 @@ pub const GLOBAL: usize = 11;
 pub const LIST: usize = 12;
 
 /// A journal with one of each thing that has a case of its own. Three entries are committed,
-/// the sequence number passes 2^63; the fourth ENTRY is behind them and not committed.
+/// the sequence number passes 2^63; the fourth ENTRY is after them and not committed.
 pub fn example() -> Draft {
     let data = |payload: &str, entry_offset: Item, entry_array, n_entries| {
         Part::Data(Data {

@@ -1,4 +1,5 @@
-//! `journal_framed` with every byte, every two words and every length at all that the rules compare.
+//! `journal_framed` with every byte, every two words and every length at all that the rules
+//! compare.
 use super::frames::{every_type, tried};
 use checks::against::trial::with;
 use checks::generator::frame::{frame, set};
@@ -96,8 +97,8 @@ fn short_and_random_inputs() {
     tried.print("short and random inputs");
 }
 
-/// A good image cut at every length: as it is, with the arena that is left, and with the last object
-/// that starts in it as the tail object.
+/// A good image cut at every length: as it is, with the arena that is left, and with the last
+/// object that starts in it as the tail object.
 #[test]
 fn every_cut() {
     let mut tried = tried();

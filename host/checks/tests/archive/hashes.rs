@@ -7,8 +7,8 @@ use std::hash::Hasher;
 use std::hint::black_box;
 use wrapper::raw::{hash_lookup3, hash_siphash24};
 
-/// Hashes `buffer[start..start + length]` with the archive, and holds the results against the other
-/// voices, and the whole buffer and the key against copies from before.
+/// Hashes `buffer[start..start + length]` with the archive, and compares the results with the
+/// others, and the whole buffer and the key with copies from before.
 fn check(key: &[u8; 16], buffer: &mut [u8], start: usize, length: usize) {
     let mut key = *key;
     let (key_before, before) = (key, buffer.to_vec());

@@ -50,7 +50,7 @@ fn grown_images() {
     assert_eq!(tried.refused, 0);
 }
 
-/// Cut behind each store, with the arguments from before the append and behind it.
+/// Cut after each store, with the arguments from before the append and after it.
 #[test]
 fn appends_cut_in_the_middle() {
     let mut tried = Tried::default();

@@ -74,11 +74,11 @@ fn corpus_files() {
         tried.lengths(&image, &Asked::Entries, &pages::entries(&journal));
         for object in journal.image.of_kind(kind::DATA).iter().step_by(12) {
             let asked = Asked::Matches(journal.image.payload(object).to_vec());
-            tried.one_behind_another(&image, &asked, &asked.records(&journal));
+            tried.one_after_another(&image, &asked, &asked.records(&journal));
         }
         for object in journal.image.of_kind(kind::FIELD) {
             let asked = Asked::Values(journal.image.payload(&object).to_vec());
-            tried.one_behind_another(&image, &asked, &asked.records(&journal));
+            tried.one_after_another(&image, &asked, &asked.records(&journal));
         }
     }
     tried.print("corpus");

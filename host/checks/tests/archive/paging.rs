@@ -1,5 +1,5 @@
-//! How pages are tried: every question to an image, from every place, in pages of every length at which
-//! the answer changes; the archive's answer and page held against the reading's.
+//! How pages are tried: every question to an image, from every place, in pages of every length at
+//! which the answer changes; the archive's answer and page compared with the reading's.
 use checks::against::lent::Lent;
 use checks::against::trial::{hex, lend};
 use checks::generator::questions::Arguments;
@@ -90,7 +90,7 @@ impl Tried {
         for asked in asked {
             let records = asked.records(journal);
             self.lengths(image, &asked, &records);
-            self.one_behind_another(image, &asked, &records);
+            self.one_after_another(image, &asked, &records);
         }
     }
 
@@ -121,7 +121,7 @@ impl Tried {
 
     /// As a host with a short page asks: on from the records it has, with a longer page if not even
     /// one fits.
-    pub fn one_behind_another(&mut self, image: &[u8], asked: &Asked, records: &[Vec<u8>]) {
+    pub fn one_after_another(&mut self, image: &[u8], asked: &Asked, records: &[Vec<u8>]) {
         let (mut place, mut length, mut all) = (0, 100, Vec::new());
         loop {
             let mut page = vec![0; length];

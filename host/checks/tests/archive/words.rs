@@ -46,7 +46,7 @@ fn words_one_by_one() {
             let to = it.offsets[FIELD_LOT];
             it.set(it.offsets[FIELD_OFF] + field::HEAD_DATA_OFFSET, to)
         }),
-        ("entry_array_offset behind the tail object", 8, |it| {
+        ("entry_array_offset after the tail object", 8, |it| {
             it.set(header::ENTRY_ARRAY_OFFSET, it.arena_end)
         }),
         ("n_entries one more: a committed item 0", 9, |it| {

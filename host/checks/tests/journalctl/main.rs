@@ -1,6 +1,6 @@
 //! Files that the archive alone makes and writes, and journalctl: it passes each, and shows what the
 //! archive's lookups show. The same for journald's own files with appends of the archive, and for
-//! files in the midst of an append, which are shown as before it or as behind it.
+//! crash states of an append, which are shown as before it or as after it.
 //!
 //! It needs journalctl, so that `cargo test` runs it only when it is asked for by name:
 //! `cargo test --offline --release -p checks --test journalctl`.

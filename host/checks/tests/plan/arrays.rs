@@ -52,7 +52,7 @@ fn next_items(tried: &mut Tried, image: &[u8]) -> [u64; 2] {
     let need = append.need().expect("it is taken");
     let (number, list) = tried.with_list(&append, 16 * need);
     assert_eq!(number, 0);
-    // The objects begin behind the tail object: an ENTRY of one item, then the arrays.
+    // The objects begin after the tail object: an ENTRY of one item, then the arrays.
     let image = Image::walked(image);
     let start = image.objects[image.objects.len() - 1].next() as u64;
     let value = |offset: u64| {

@@ -27,7 +27,7 @@ fn corpus() {
             ..request(&fields, seqnum, u64::MAX, seqnum)
         };
         assert_eq!(tried.append(&image, ask(u64::MAX)), number, "{name}");
-        // The same files set offline, and with other appends behind the first.
+        // The same files set offline, and with other appends after the first.
         let mut offline = image.clone();
         offline[header::STATE as usize] = 0;
         let now = if number == 13 { 0 } else { number };

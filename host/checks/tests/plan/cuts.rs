@@ -1,5 +1,5 @@
 //! Every cut of appends that the archive works out and carries out: each image opens, and every
-//! lookup answers as before the append, or from the commit store on as behind it.
+//! lookup answers as before the append, or from the commit store on as after it.
 use checks::against::cuts::{cuts, Cut};
 use checks::against::orders::orders;
 use checks::against::plan::{number, Append};
@@ -21,7 +21,7 @@ struct Tried {
 }
 
 impl Tried {
-    /// Cuts an append everywhere and asks one question in `step` at each cut; the image behind it,
+    /// Cuts an append everywhere and asks one question in `step` at each cut; the image after it,
     /// none where it is not taken.
     fn cut(&mut self, image: &[u8], request: Request, step: usize) -> Option<Vec<u8>> {
         let tried = self.appends;
@@ -107,9 +107,9 @@ fn appends_cut_everywhere() {
     assert!(tried.appends > 80);
 }
 
-/// Appends one behind another.
+/// Appends one after another.
 #[test]
-fn appends_one_behind_another() {
+fn appends_one_after_another() {
     let mut tried = Tried::default();
     for seed in 0..12 {
         let random = &mut Random::new(seed + 77_000);
@@ -121,11 +121,11 @@ fn appends_one_behind_another() {
             }
         }
     }
-    tried.print("appends one behind another");
+    tried.print("appends one after another");
     assert!(tried.appends > 20);
 }
 
-/// Of the stores between two syncs a disk may hold any, in any order.
+/// Crash states between two syncs: a disk may hold any of the stores, in any order.
 #[test]
 fn any_stores_between_syncs() {
     let (mut appends, mut images) = (0, 0);

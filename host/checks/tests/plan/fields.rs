@@ -58,7 +58,7 @@ fn names_of_every_byte() {
             // The sign itself leaves an empty name.
             ([&[byte][..], b"A=1"].concat(), letter),
             ([&[byte][..], b"=1"].concat(), letter),
-            // In the midst and at the end the sign ends the name.
+            // In the middle and at the end the sign ends the name.
             (
                 [b"A", &[byte][..], b"A=1"].concat(),
                 letter || digit || byte == b'=',
@@ -112,7 +112,7 @@ fn every_number_of_fields() {
     tried.print("every number of fields");
 }
 
-/// A buffer cut at every byte, with bytes behind it, and with other lengths in it.
+/// A buffer cut at every byte, with bytes after it, and with other lengths in it.
 #[test]
 fn badly_packed() {
     let mut tried = Tried::default();

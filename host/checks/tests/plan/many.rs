@@ -158,7 +158,7 @@ fn files_that_grow() {
     assert!(appends > 800, "{appends}");
 }
 
-/// A longer file of the archive alone, held against the reading now and then.
+/// A longer file of the archive alone, compared with the reading now and then.
 #[test]
 fn a_file_of_many_entries() {
     let mut tried = Tried::default();

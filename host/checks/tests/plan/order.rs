@@ -18,7 +18,7 @@ fn first_entries() {
     for keyed in [false, true] {
         let image = made(1024, (1, 1), keyed);
         for number in edges() {
-            // Only a sequence number of 0 is refused: there is nothing to hold the times against.
+            // Only a sequence number of 0 is refused: there is nothing to compare the times with.
             let refused = if number == 0 { 17 } else { 0 };
             let ask = request(&fields, number, 5, 5);
             assert_eq!(tried.append(&image, ask), refused);
@@ -53,7 +53,7 @@ fn later_entries() {
                 };
                 let number = if next >= last { 0 } else { 17 };
                 assert_eq!(tried.append(&image, ask(next, last)), number);
-                // Monotonic times are held against one another in one boot alone.
+                // Monotonic times are compared in one boot alone.
                 let number = if boot_id == BOOT { number } else { 0 };
                 assert_eq!(tried.append(&image, ask(last, next)), number);
             }

@@ -8,7 +8,7 @@ use reading::request::packed;
 
 use crate::made::{fields, made, Tried};
 
-/// Payloads whose hashes fall in one cell, or names, or both; behind nothing, and behind old ones.
+/// Payloads whose hashes fall in one cell, or names, or both; after nothing, and after old ones.
 #[test]
 fn several_in_one_cell() {
     let mut tried = Tried::default();
@@ -74,7 +74,7 @@ fn every_order_of_six_fields() {
     tried.print("every order of six fields");
 }
 
-/// The arena's end at every word from the objects' end on, with bytes of the image behind it or not.
+/// The arena's end at every word from the objects' end on, with bytes of the image after it or not.
 #[test]
 fn arenas_around_the_end() {
     let mut tried = Tried::default();
@@ -97,9 +97,9 @@ fn arenas_around_the_end() {
         let end = stores.iter().map(|it| it.offset).max().expect("some") + 8;
         for arena_end in (start..end + 24).step_by(8) {
             let number = if arena_end < end { 18 } else { 0 };
-            for behind in [0, 5, 800] {
+            for trailing in [0, 5, 800] {
                 let mut image = image.clone();
-                image.resize(arena_end as usize + behind, 0xaa);
+                image.resize(arena_end as usize + trailing, 0xaa);
                 set(&mut image, header::ARENA_SIZE, arena_end - 256);
                 assert_eq!(tried.append(&image, ask), number);
             }

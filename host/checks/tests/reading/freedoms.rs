@@ -36,7 +36,7 @@ fn freedoms(made: &Rendered) -> Vec<&'static str> {
         made.image.len() % 8 != 0,
         "a length that is no multiple of 8",
     );
-    see(draft.spare > 0 && draft.noise, "bytes behind the tail");
+    see(draft.spare > 0 && draft.noise, "bytes after the tail");
     see(
         draft.committed.is_empty() && !draft.parts.is_empty(),
         "objects, and no entry committed",
@@ -56,7 +56,7 @@ fn freedoms(made: &Rendered) -> Vec<&'static str> {
                 see(committed && entry.seqnum >= 1 << 63, "a seqnum past 2^63");
                 see(
                     entry.items.iter().any(|&item| made.offsets[item] > at),
-                    "a DATA behind its ENTRY",
+                    "a DATA after its ENTRY",
                 );
             }
             Part::Field(field) => {

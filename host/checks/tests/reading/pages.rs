@@ -3,7 +3,7 @@ use checks::generator::worked::{two_appends, LAST};
 use reading::pages::{page_entries, page_matches, page_values, Page};
 
 const BOOT: u64 = 0x0505_0505_0505_0505;
-/// "DATA 320 .. DATA 456 .. ENTRY 584": a payload lies 64 behind its DATA.
+/// "DATA 320 .. DATA 456 .. ENTRY 584": a payload lies 64 past its DATA.
 const MESSAGE: [u64; 2] = [384, 18];
 const PRIORITY: [u64; 2] = [520, 10];
 

@@ -14,7 +14,7 @@ struct Carried {
 }
 
 impl Carried {
-    /// Holds carrying out against the reading, byte by byte. The list stays, and at 21 the image.
+    /// Compares carrying out with the reading, byte by byte. The list stays, and at 21 the image.
     fn out(&mut self, image: &[u8], list: &[u8], k: u64) -> u64 {
         let tried = self.done + self.refused;
         let mut stores = list.to_vec();

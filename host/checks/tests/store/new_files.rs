@@ -28,7 +28,7 @@ fn expected(image: &[u8], ids: &[u8; 64], asked: Asked) -> (u64, Vec<u8>) {
     (answer, image)
 }
 
-/// Holds a new file over `image` against the reading's, byte by byte. At 20 no byte changes; a file
+/// Compares a new file over `image` with the reading's, byte by byte. At 20 no byte changes; a file
 /// that is made opens.
 fn made(image: &[u8], ids: &[u8; 64], asked: Asked, tried: u64) -> u64 {
     let (answer, is) = lent(image, tried, |image| {

@@ -35,7 +35,7 @@ fn told(path: &Path, name: &str, number: usize) -> Said {
 }
 
 /// A file with two entries; the same in the course of the append of a third, at each of its syncs;
-/// and behind it.
+/// and after it.
 fn course(folder: &Path) -> (Vec<u8>, Vec<Vec<u8>>) {
     let path = made(folder, "two.journal", "4096");
     append(&path, 1, &["A=1"]).done();
@@ -55,7 +55,7 @@ fn course(folder: &Path) -> (Vec<u8>, Vec<Vec<u8>>) {
 }
 
 /// Ended at its n-th sync, the file has the stores of the groups up to there and no others. It opens, it
-/// lists as before or behind, and it takes no append but where only the last sync was missing.
+/// lists as before or after, and it takes no append but where only the last sync was missing.
 #[test]
 fn ended_at_every_sync() {
     let folder = folder("cut");

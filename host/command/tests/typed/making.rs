@@ -106,7 +106,7 @@ fn a_file_that_is_there_stays() {
     assert!(!folder.join("missing").exists());
 }
 
-/// Where there is no room, nothing stays behind.
+/// Where there is no room, nothing is left.
 #[test]
 fn no_room() {
     let folder = folder("new-no-room");

@@ -46,7 +46,7 @@ impl Said {
         line.to_string()
     }
 
-    /// The same of what a file is the matter with: the words behind its name.
+    /// The same of what a file is the matter with: the words after its name.
     pub fn failed_with(self, file: &Path) -> String {
         let line = self.failed(1);
         let words = line.strip_prefix(&format!("{}: ", file.display()));

@@ -13,7 +13,7 @@ fn long(name: &str) -> PathBuf {
     file(&folder(name), "long.journal", &image)
 }
 
-/// `list FILE | head -n 2`: the pipe is closed behind the second line, and nothing is said.
+/// `list FILE | head -n 2`: the pipe is closed after the second line, and nothing is said.
 #[test]
 fn a_pipe_that_is_closed() {
     let mut child = program()

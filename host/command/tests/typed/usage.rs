@@ -86,7 +86,7 @@ fn wrong_words() {
     assert!(!absent.exists());
 }
 
-/// Behind `--` stands what looks like an option.
+/// After `--` stands what looks like an option.
 #[test]
 fn a_file_named_like_an_option() {
     let folder = folder("dashes");

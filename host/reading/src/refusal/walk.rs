@@ -7,7 +7,7 @@ use crate::layout::{header, kind, FIRST_OBJECT};
 /// object passes the arena's end; type 0; one of flag bits 0 to 2 set; a size wrong".
 ///
 /// Every object from 256 up to and including the one at tail_object_offset is judged, and
-/// nothing behind it.
+/// nothing after it.
 pub fn six(bytes: &[u8], found: &mut Vec<Clause>) {
     let tail_object_offset = le64(bytes, header::TAIL_OBJECT_OFFSET);
     let arena_end = arena_end(bytes);

@@ -5,7 +5,8 @@ use crate::generator::rendered::Rendered;
 use crate::random::Random;
 use reading::refusal::Clause;
 
-/// Mutates a good image so that a clause applies, which mostly succeeds; false where it can't be tried.
+/// Mutates a good image so that a clause applies, which mostly succeeds; false where it can't be
+/// tried.
 pub fn mutate(clause: Clause, random: &mut Random, made: &mut Rendered) -> bool {
     match clause.number {
         1..=5 => low::mutate(clause, random, made),
