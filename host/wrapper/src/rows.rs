@@ -20,8 +20,8 @@ pub const ROWS: [(&str, &str); 21] = [
         "an incompatible bit other than bit 2",
     ),
     (
-        "the file's header does not fit it: its end is missing, or a newer systemd wrote it (use \
-         journalctl for such files)",
+        "the file's header does not fit it: its end is missing, or a newer systemd wrote it, and then \
+         journalctl can read it",
         "header_size not 256, arena_size not a multiple of 8, or their sum above the image length",
     ),
     (

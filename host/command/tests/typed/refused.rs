@@ -57,8 +57,8 @@ fn a_sentence_and_then_the_rule() {
     let path = corpus::path("trixie-k1-c0-system");
     let words = asked("check", &path).failed_with(&path);
     let expected =
-        "the file's header does not fit it: its end is missing, or a newer systemd wrote \
-                    it (use journalctl for such files) (refusal 5: header_size not 256, arena_size \
+        "the file's header does not fit it: its end is missing, or a newer systemd wrote it, \
+                    and then journalctl can read it (refusal 5: header_size not 256, arena_size \
                     not a multiple of 8, or their sum above the image length)";
     assert_eq!(words, expected);
 }
