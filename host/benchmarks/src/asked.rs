@@ -1,6 +1,5 @@
 //! Lookups as questions, to the archive and to plain Rust.
-#[cfg(measure)]
-use crate::measured::Opened;
+use crate::many::{words, Many};
 use crate::plain::lookup;
 use crate::plain::open::open;
 use checks::generator::any::any;
@@ -8,6 +7,7 @@ use checks::generator::questions::{one_of_each, questions};
 use checks::random::Random;
 use reading::ask::Question;
 use reading::lookup::open as read;
+use std::collections::BTreeMap;
 use wrapper::raw::{self, Part, Stamps};
 
 /// An answer of any lookup as numbers.
@@ -76,7 +76,7 @@ pub fn plain(image: &[u8], asked: &Asked) -> Answer {
     }
 }
 
-/// Only what answers the same can be compared.
+/// Only what answers the same can be compared: each lookup by itself, and all of a kind together.
 pub fn same_answers() {
     for seed in 0..150 {
         let image = any(&mut Random::new(seed));
@@ -92,44 +92,19 @@ pub fn same_answers() {
             })
             .collect();
         let asked = all.drain(..).map(Asked::Other);
+        let mut together: BTreeMap<Many, Vec<u64>> = BTreeMap::new();
         for asked in asked.chain(offsets.into_iter().map(Asked::Stamps)) {
             assert_eq!(plain(&image, &asked), archive(&image, &asked));
-            #[cfg(measure)]
-            if let Some(image) = Opened::new(&image) {
-                let answer = alone_archive(image, &asked);
-                assert_eq!(alone_plain(image.image(), &asked), answer);
-            }
+            let (many, argument) = Many::of(&asked);
+            together.entry(many).or_default().push(argument);
         }
-    }
-}
-
-/// One number of each answer.
-#[cfg(measure)]
-pub fn alone_archive(image: Opened, asked: &Asked) -> u64 {
-    match asked {
-        Asked::Stamps(entry) => image.stamps(*entry),
-        Asked::Other(question) => match question {
-            Question::Entry(place) => image.entry(*place),
-            Question::FirstSeqnum(seqnum) => image.by_seqnum(*seqnum),
-            Question::FirstRealtime(realtime) => image.by_realtime(*realtime),
-            Question::Holding(payload, place) => image.by_payload(payload, *place),
-            Question::Item(entry, place) => image.item(*entry, *place),
-            Question::Payload(name, place) => image.value(name, *place),
-        },
-    }
-}
-
-#[cfg(measure)]
-pub fn alone_plain(image: &[u8], asked: &Asked) -> u64 {
-    match asked {
-        Asked::Stamps(entry) => lookup::stamps(image, *entry).seqnum,
-        Asked::Other(question) => match question {
-            Question::Entry(place) => lookup::entry(image, *place),
-            Question::FirstSeqnum(seqnum) => lookup::by_seqnum(image, *seqnum),
-            Question::FirstRealtime(realtime) => lookup::by_realtime(image, *realtime),
-            Question::Holding(payload, place) => lookup::by_payload(image, payload, *place),
-            Question::Item(entry, place) => lookup::item(image, *entry, *place).len,
-            Question::Payload(name, place) => lookup::value(image, name, *place).len,
-        },
+        for (many, arguments) in together {
+            let arguments = words(&arguments);
+            let sum = match open(&image) {
+                0 => many.plain(&image, &arguments),
+                refusal => refusal,
+            };
+            assert_eq!(many.archive(&image, &arguments), sum, "{many:?}");
+        }
     }
 }

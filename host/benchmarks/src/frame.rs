@@ -1,15 +1,13 @@
 //! Refusals 1 to 7, alone and with the object map, of images of the greatest length: against plain
 //! Rust with the same passes over the objects, and against plain Rust with one.
-#[cfg(measure)]
-use crate::measured;
 use crate::plain::frame as plain;
 use crate::timing::{heading, measure, row};
 use checks::generator::frame::{frame as framed_image, set};
 use checks::generator::mutation::untargeted;
 use checks::random::Random;
+use measured::framed;
 use reading::layout::{header, FIRST_OBJECT, MOST_BYTES};
 use std::hint::black_box;
-use wrapper::framed::framed;
 
 struct Full {
     label: String,
@@ -46,7 +44,6 @@ pub fn frame() {
     map(&full);
 }
 
-#[cfg(measure)]
 fn map(full: &[Full]) {
     let passes: [(&str, fn(&[u8], u64) -> u64); 2] = [
         ("and map", black_box(plain::map)),
@@ -62,14 +59,6 @@ fn map(full: &[Full]) {
             row(label, image.len(), &times);
         }
     }
-}
-
-#[cfg(not(measure))]
-fn map(_: &[Full]) {
-    println!(
-        "the object map is measured after `rt staticlib {}`",
-        env!("ARCHIVE")
-    );
 }
 
 /// An image of the greatest length, full of objects of these types, each with a size from one to
@@ -108,7 +97,6 @@ fn same_answers() {
         let answer = framed(&image);
         assert_eq!(plain::refusal(&image), answer);
         assert_eq!(plain::refusal_in_one_pass(&image), answer);
-        #[cfg(measure)]
         if seed < 1_000 {
             for at in (248..500).step_by(4) {
                 let answer = measured::map(&image, at);

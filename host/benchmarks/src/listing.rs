@@ -1,14 +1,11 @@
 //! Listing all entries: of files of at most 65,536 bytes by the program `list`, by plain Rust in this
-//! process and by journalctl, and of one of the greatest length by the inner lookups, by one page and
-//! by `journal list`.
-#[cfg(measure)]
-use crate::measured::Opened;
+//! process and by journalctl, and of one of the greatest length by many lookups at once, by one page
+//! and by `journal list`.
+use crate::many::{words, Many};
 use crate::open::{filled, full};
 use crate::plain::{lookup, open::open};
 use crate::process::{journalctl, mean, spent};
-#[cfg(measure)]
-use crate::timing::{heading, row};
-use crate::timing::{measure_long, measure_one};
+use crate::timing::{heading, measure_long, measure_one, row};
 use checks::corpus;
 use checks::program;
 use std::ffi::OsStr;
@@ -96,18 +93,19 @@ fn longest(path: &Path) {
     );
     let less = |all: Option<f64>| Some((all? - version?) / 1e3);
     let cell = |time: Option<f64>| time.map_or("-".to_string(), |it| format!("{it:.0} ms"));
-    #[cfg(measure)]
-    {
-        heading("all of 8 MiB");
-        let plain: fn(&[u8]) -> u64 = black_box(plain_reading);
-        assert_eq!(reading(&image), plain(&image));
-        let times = measure_long(
-            60,
-            || reading(black_box(&image)),
-            || plain(black_box(&image)),
-        );
-        row("opened and read", image.len(), &times);
-    }
+    heading("all of 8 MiB");
+    let offsets = words(&offsets(&image));
+    let plain: fn(&[u8], &[u8]) -> u64 = black_box(plain_reading);
+    assert_eq!(
+        Many::Stamps.archive(&image, &offsets),
+        plain(&image, &offsets)
+    );
+    let times = measure_long(
+        60,
+        || Many::Stamps.archive(black_box(&image), black_box(&offsets)),
+        || plain(black_box(&image), black_box(&offsets)),
+    );
+    row("opened and read", image.len(), &times);
     println!(
         "journalctl -o short {}, -o export {}",
         cell(less(short)),
@@ -155,25 +153,16 @@ fn against_opening(path: &Path, image: &[u8]) {
     }
 }
 
-/// The sequence numbers of all committed entries, added up.
-#[cfg(measure)]
-fn reading(image: &[u8]) -> u64 {
-    let image = Opened::new(image).expect("it opens");
-    (0..)
-        .map(|place| image.entry(place))
-        .take_while(|&entry| entry != 0)
-        .map(|entry| image.stamps(entry))
-        .sum()
+/// The offsets of all committed entries of an image that opens.
+fn offsets(image: &[u8]) -> Vec<u64> {
+    let entries = (0..).map(|place| lookup::entry(image, place));
+    entries.take_while(|&entry| entry != 0).collect()
 }
 
-#[cfg(measure)]
-fn plain_reading(image: &[u8]) -> u64 {
+/// Opens the image, and adds up the sequence numbers of the entries at these offsets.
+fn plain_reading(image: &[u8], offsets: &[u8]) -> u64 {
     assert_eq!(open(image), 0);
-    (0..)
-        .map(|place| lookup::entry(image, place))
-        .take_while(|&entry| entry != 0)
-        .map(|entry| lookup::stamps(image, entry).seqnum)
-        .sum()
+    Many::Stamps.plain(image, offsets)
 }
 
 fn list(input: &Path) -> Command {

@@ -1,20 +1,18 @@
 //! Each lookup on a file of the greatest length: one call with the opening in it, and the lookup alone,
 //! against plain Rust.
-#[cfg(measure)]
-use crate::asked::{alone_archive, alone_plain};
 use crate::asked::{archive, plain, same_answers, Answer, Asked};
-#[cfg(measure)]
-use crate::measured::Opened;
+use crate::many::{words, Many};
 use crate::open::full;
 use crate::plain::lookup::by_payload;
-use crate::timing::{heading, measure_long, row};
-#[cfg(measure)]
-use crate::timing::{measure, small_heading, small_row};
+use crate::timing::{heading, least_long, lookups_heading, lookups_row, measure_long, row, Times};
 use reading::ask::Question;
 use reading::image::le64;
 use reading::layout::header;
 use std::hint::black_box;
 use wrapper::raw;
+
+/// How often what is measured of lookups without opening is called.
+const ROUNDS: usize = 20;
 
 pub fn lookups() {
     same_answers();
@@ -63,25 +61,36 @@ pub fn lookups() {
     alone(image, &asked);
 }
 
-/// The lookups without opening.
-#[cfg(measure)]
+/// The lookups without opening: by one call of the archive with so many that opening is a small
+/// part of it, less the same call without any, against as many by plain Rust.
 fn alone(image: &[u8], asked: &[(&str, Asked)]) {
-    let image = Opened::new(image).expect("it opens");
-    let plain: fn(&[u8], &Asked) -> u64 = black_box(alone_plain);
-    small_heading("without opening");
+    let plain: fn(&Many, &[u8], &[u8]) -> u64 = black_box(Many::plain);
+    lookups_heading("without opening");
     for (label, asked) in asked {
-        let times = measure(
-            || alone_archive(black_box(image), asked),
-            || plain(black_box(image.image()), asked),
-        );
-        small_row(label, &times);
+        let (many, argument) = Many::of(asked);
+        let count = match many {
+            Many::Value(_) => 2_000,
+            Many::ByRealtime => 20_000,
+            Many::ByPayload(_) => 60_000,
+            _ => 5_000_000,
+        };
+        let arguments = words(&vec![argument; count]);
+        let sum = plain(&many, image, &arguments);
+        assert_eq!(many.archive(image, &arguments), sum);
+        assert_eq!(many.archive(image, &[]), 0);
+        let archive = |arguments: &[u8]| {
+            black_box(many.archive(black_box(image), black_box(arguments)));
+        };
+        let mut all = || archive(&arguments);
+        let mut none = || archive(&[]);
+        let mut plain = || {
+            black_box(plain(&many, black_box(image), black_box(&arguments)));
+        };
+        let [all, none, plain] = least_long(ROUNDS, [&mut all, &mut none, &mut plain]);
+        let times = Times {
+            archive: (all - none) / count as f64,
+            plain: plain / count as f64,
+        };
+        lookups_row(label, count, &times);
     }
-}
-
-#[cfg(not(measure))]
-fn alone(_: &[u8], _: &[(&str, Asked)]) {
-    println!(
-        "lookups without opening are measured after `rt staticlib {}`",
-        env!("ARCHIVE")
-    );
 }

@@ -10,8 +10,7 @@ mod frame;
 mod hostile;
 mod listing;
 mod lookups;
-#[cfg(measure)]
-mod measured;
+mod many;
 mod objects;
 mod open;
 mod plain;

@@ -49,13 +49,19 @@ pub fn measure_long<T>(
     mut archive: impl FnMut() -> T,
     mut plain: impl FnMut() -> T,
 ) -> Times {
-    let mut least = Times {
-        archive: f64::INFINITY,
-        plain: f64::INFINITY,
-    };
+    let mut archive = || drop(black_box(archive()));
+    let mut plain = || drop(black_box(plain()));
+    let [archive, plain] = least_long(rounds, [&mut archive, &mut plain]);
+    Times { archive, plain }
+}
+
+/// The least times of such calls, made in turns.
+pub fn least_long<const N: usize>(rounds: usize, mut calls: [&mut dyn FnMut(); N]) -> [f64; N] {
+    let mut least = [f64::INFINITY; N];
     for _ in 0..rounds {
-        least.archive = least.archive.min(time_long(&mut archive, 1));
-        least.plain = least.plain.min(time_long(&mut plain, 1));
+        for (least, call) in least.iter_mut().zip(&mut calls) {
+            *least = least.min(time_long(call, 1));
+        }
     }
     least
 }
@@ -136,20 +142,18 @@ pub fn row(label: &str, bytes: usize, times: &Times) {
     );
 }
 
-/// The same for calls that do not work through bytes.
-#[cfg(measure)]
-pub fn small_heading(title: &str) {
+/// The same for many lookups at once: how many, and the times of one of them.
+pub fn lookups_heading(title: &str) {
     println!(
-        "{title:<18} {:>14} {:>14} {:>8}",
-        "archive ns", "plain ns", "ratio"
+        "{title:<18} {:>14} {:>14} {:>14} {:>8}",
+        "lookups", "archive ns", "plain ns", "ratio"
     );
 }
 
-#[cfg(measure)]
-pub fn small_row(label: &str, times: &Times) {
+pub fn lookups_row(label: &str, lookups: usize, times: &Times) {
     let Times { archive, plain } = times;
     println!(
-        "{label:<18} {archive:>14.1} {plain:>14.1} {:>8.2}",
+        "{label:<18} {lookups:>14} {archive:>14.1} {plain:>14.1} {:>8.2}",
         plain / archive
     );
 }

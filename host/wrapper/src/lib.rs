@@ -2,11 +2,9 @@
 //! same name without the prefix `journal_`, with slices as arguments and with answers that have
 //! types.
 //!
-//! `raw` has the same functions with the numbers that the archive answers. It and `framed`, which
-//! only tests and measurements have a use for, make all `unsafe` calls into the archive.
-//! `groups` tells where to sync in an append.
+//! `raw` has the same functions with the numbers that the archive answers, and makes all `unsafe`
+//! calls into it. `groups` tells where to sync in an append.
 mod call;
-pub mod framed;
 pub mod groups;
 mod lookups;
 mod pages;

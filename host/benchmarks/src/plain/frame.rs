@@ -24,7 +24,6 @@ pub fn refusal_in_one_pass(image: &[u8]) -> u64 {
 
 /// Refusals 1 to 7, and then a pass that makes the object map in an array of its own: the refusal,
 /// or 8 and the map's number for the object at `at`.
-#[cfg(measure)]
 pub fn map(image: &[u8], at: u64) -> u64 {
     match refusal(image) {
         0 => {}
@@ -41,7 +40,6 @@ pub fn map(image: &[u8], at: u64) -> u64 {
 }
 
 /// The same with one pass for all.
-#[cfg(measure)]
 pub fn map_in_one_pass(image: &[u8], at: u64) -> u64 {
     let mut map = [0u8; LONGEST_IMAGE / 8];
     match in_one_pass(image, |object, kind| map[object / 8] = kind.min(8)) {
@@ -50,7 +48,6 @@ pub fn map_in_one_pass(image: &[u8], at: u64) -> u64 {
     }
 }
 
-#[cfg(measure)]
 fn slot(map: &[u8], at: u64) -> u64 {
     match at % 8 {
         0 => map.get((at / 8) as usize).copied().unwrap_or(0).into(),

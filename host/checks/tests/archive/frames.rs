@@ -1,12 +1,12 @@
-//! The archive's `journal_framed` against the independent reading: the lowest of refusals 1 to 7
+//! The archive's `benchmark_framed` against the independent reading: the lowest of refusals 1 to 7
 //! that applies, or 0.
 use checks::against::trial::{with, Tried};
 use checks::generator::frame::{frame, set};
 use checks::generator::worked::made;
 use checks::generator::{good, grown, mutation};
 use checks::random::Random;
+use measured::framed;
 use reading::layout::{header, kind, MOST_BYTES};
-use wrapper::framed::framed;
 
 pub fn tried() -> Tried {
     Tried::new(framed, 7)

@@ -1,4 +1,4 @@
-//! `journal_framed` with every byte, every two words and every length at all that the rules
+//! `benchmark_framed` with every byte, every two words and every length at all that the rules
 //! compare.
 use super::frames::{every_type, tried};
 use checks::against::trial::with;

@@ -1,4 +1,5 @@
-//! The archive's calls compared with the independent reading.
+//! The archives' calls compared with the independent reading.
+mod adding;
 mod asking;
 mod drafts;
 mod example;
@@ -6,6 +7,7 @@ mod frames;
 mod frames_by_byte;
 mod hashes;
 mod lookups;
+mod many;
 mod open;
 mod pages;
 mod paging;

@@ -7,9 +7,9 @@ use checks::generator::frame::{frame, set};
 use checks::generator::worked::one_cell_each;
 use checks::generator::{good, grown, mutation};
 use checks::random::Random;
+use measured::framed;
 use reading::layout::{header, kind, MOST_BYTES};
 use reading::new_file::{new_file, NewFile};
-use wrapper::framed::framed;
 use wrapper::raw;
 
 /// The frame alone gives the same answer up to 7.
