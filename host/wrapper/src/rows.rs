@@ -109,10 +109,10 @@ pub const ROWS: [(&str, &str); 21] = [
          needed comes back too",
     ),
     (
-        "such a file can't be made: give a size that is a multiple of 8, at most 8,388,608, with \
-         room for 1 to 65,536 data cells and 1 to 1,024 field cells",
-        "not so: length a multiple of 8, at most 8,388,608; 1 to 65,536 data cells, 1 to 1,024 \
-         field cells; keyed or not; or the tables do not fit",
+        "a file of this size and with these numbers of cells can't be made: give another size, or \
+         other numbers",
+        "length a multiple of 8, at most 8,388,608; 1 to 65,536 data cells, 1 to 1,024 field \
+         cells; keyed or not; otherwise, or if the tables do not fit, 20",
     ),
     (
         "the stores are not of this file, and nothing was written: plan the append again",

@@ -171,4 +171,10 @@ fn new_files() {
         assert_eq!(typed("new", &path, words).refused(&path), 20, "{words:?}");
         assert!(!path.exists());
     }
+    let said = typed("new", &path, wrong[0]).failed_with(&path);
+    let expected = "a file of this size and with these numbers of cells can't be made: give \
+                    another size, or other numbers (refusal 20: length a multiple of 8, at most \
+                    8,388,608; 1 to 65,536 data cells, 1 to 1,024 field cells; keyed or not; \
+                    otherwise, or if the tables do not fit, 20)";
+    assert_eq!(said, expected);
 }
