@@ -11,7 +11,7 @@ use std::collections::BTreeMap;
 use wrapper::raw::{self, Part, Stamps};
 
 /// An answer of any lookup as numbers.
-pub type Answer = [u64; 6];
+pub type Answer = [u64; 7];
 
 pub enum Asked {
     Stamps(u64),
@@ -19,15 +19,16 @@ pub enum Asked {
 }
 
 fn number(number: u64) -> Answer {
-    [number, 0, 0, 0, 0, 0]
+    [number, 0, 0, 0, 0, 0, 0]
 }
 
 fn part(part: Part) -> Answer {
-    [part.at, part.len, 0, 0, 0, 0]
+    [part.at, part.len, 0, 0, 0, 0, 0]
 }
 
 fn stamps(it: Stamps) -> Answer {
     let Stamps {
+        refusal,
         seqnum,
         realtime,
         monotonic,
@@ -35,7 +36,9 @@ fn stamps(it: Stamps) -> Answer {
         boot_high,
         items,
     } = it;
-    [seqnum, realtime, monotonic, boot_low, boot_high, items]
+    [
+        refusal, seqnum, realtime, monotonic, boot_low, boot_high, items,
+    ]
 }
 
 pub fn archive(image: &[u8], asked: &Asked) -> Answer {
@@ -71,7 +74,7 @@ fn opened(image: &[u8], asked: &Asked) -> Answer {
 pub fn plain(image: &[u8], asked: &Asked) -> Answer {
     match (open(image), asked) {
         (0, _) => opened(image, asked),
-        (_, Asked::Stamps(_) | Asked::Other(Question::Item(..) | Question::Payload(..))) => [0; 6],
+        (_, Asked::Other(Question::Item(..) | Question::Payload(..))) => part(Part::default()),
         (refusal, _) => number(refusal),
     }
 }

@@ -82,12 +82,17 @@ fn same_lookups(image: &[u8], step: usize) {
                     ),
                     (is.seqnum, is.realtime, is.monotonic, is.items)
                 );
+                assert_eq!(is.refusal, 0);
                 assert!(stamps.items > 0);
             }
             answer => {
-                assert_eq!(is, raw::Stamps::default());
-                let refused = answer.err().map_or(0, Refusal::number);
-                assert_eq!(refused, raw::open(image));
+                let refusal = answer.err().map_or(0, Refusal::number);
+                assert_eq!(refusal, opened.as_ref().err().copied().unwrap_or(0));
+                let nothing = raw::Stamps {
+                    refusal,
+                    ..raw::Stamps::default()
+                };
+                assert_eq!(is, nothing);
             }
         }
     }

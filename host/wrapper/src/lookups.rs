@@ -58,9 +58,10 @@ pub fn value<'a>(image: &'a [u8], name: &[u8], place: u64) -> Option<&'a [u8]> {
 /// The stamps of a committed entry; none at any other offset.
 pub fn stamps(image: &[u8], entry: Offset) -> Result<Option<Stamps>, Refusal> {
     let stamps = raw::stamps(image, entry.0);
-    if stamps == raw::Stamps::default() {
-        // A committed entry has items. The answer does not tell whether the image is refused.
-        return open(image).map(|()| None);
+    Refusal::check(stamps.refusal)?;
+    // A committed entry has items.
+    if stamps.items == 0 {
+        return Ok(None);
     }
     let [low, high] = [stamps.boot_low, stamps.boot_high].map(u128::from);
     Ok(Some(Stamps {

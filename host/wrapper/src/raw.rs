@@ -16,11 +16,12 @@ pub struct Part {
     pub len: u64,
 }
 
-/// What a committed entry says of itself, and the number of its items; all 0 where there is no such
-/// entry.
+/// The image's refusal, and nothing else; or what a committed entry says of itself, and the number
+/// of its items, all 0 where there is no such entry.
 #[repr(C)]
 #[derive(Clone, Copy, Debug, Default, PartialEq, Eq)]
 pub struct Stamps {
+    pub refusal: u64,
     pub seqnum: u64,
     pub realtime: u64,
     pub monotonic: u64,
@@ -106,7 +107,8 @@ pub fn value(image: &[u8], name: &[u8], place: u64) -> Part {
     unsafe { call!(journal_value(read image, read name, number place) -> Part) }
 }
 
-/// The stamps of a committed entry, all 0 where there is none, or the image is refused.
+/// The stamps of a committed entry; all 0 where there is none, and the refusal alone where the
+/// image is refused.
 #[inline]
 pub fn stamps(image: &[u8], entry: u64) -> Stamps {
     unsafe { call!(journal_stamps(read image, number entry) -> Stamps) }

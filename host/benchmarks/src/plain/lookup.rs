@@ -147,6 +147,7 @@ pub fn stamps(image: &[u8], entry: u64) -> Stamps {
     };
     let word = |at: usize| u64_at(image, entry as usize + at);
     Stamps {
+        refusal: 0,
         seqnum: word(16),
         realtime: word(24),
         monotonic: word(32),

@@ -170,6 +170,7 @@ fn the_new_entry(before: &Journal, after: &Journal, request: &Request) -> Result
     let offset = raw::entry(image, place);
     let payloads = distinct(&unpacked(request.fields).expect("refusal 16 passed"));
     let expected = Stamps {
+        refusal: 0,
         seqnum: request.seqnum,
         realtime: request.realtime,
         monotonic: request.monotonic,

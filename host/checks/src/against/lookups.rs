@@ -41,7 +41,7 @@ pub fn read(journal: &Journal, question: &Question) -> Words {
     }
 }
 
-/// "The stamps of a committed entry", and all 0 at any other offset.
+/// The stamps of a committed entry, and all 0 at any other offset, of an image that opens.
 pub fn read_stamps(journal: &Journal, offset: u64) -> raw::Stamps {
     if !journal.committed.contains(&offset) {
         return raw::Stamps::default();
@@ -49,6 +49,7 @@ pub fn read_stamps(journal: &Journal, offset: u64) -> raw::Stamps {
     let word = |at: u64| journal.image.word(offset + at);
     let object = journal.image.object_at(offset).expect("it is committed");
     raw::Stamps {
+        refusal: 0,
         seqnum: word(entry::SEQNUM),
         realtime: word(entry::REALTIME),
         monotonic: word(entry::MONOTONIC),

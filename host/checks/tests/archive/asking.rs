@@ -79,7 +79,10 @@ impl Tried {
             let answer = raw::stamps(lent, offset);
             let expected = match journal {
                 Ok(journal) => read_stamps(journal, offset),
-                Err(_) => raw::Stamps::default(),
+                Err(number) => raw::Stamps {
+                    refusal: *number,
+                    ..raw::Stamps::default()
+                },
             };
             if answer != expected {
                 panic!(
