@@ -1,0 +1,8 @@
+//! The archive compared with the reading, for tests and long runs. What differs comes back as a
+//! text.
+pub mod cuts;
+pub mod lent;
+pub mod lookups;
+pub mod orders;
+pub mod plan;
+pub mod trial;

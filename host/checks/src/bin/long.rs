@@ -1,0 +1,86 @@
+//! The archive against the independent reading, as often as asked:
+//! `cargo run --offline --release -p checks -- 1000000` opens so many images of every kind,
+//! `.. -- plan 1000000` works out so many appends, and `.. -- cuts 1000` cuts so many appends
+//! everywhere and asks every lookup each time. A second number is the first seed. It ends with status 1 at
+//! the first difference, and leaves the image in a file.
+use checks::against::cuts;
+use checks::against::plan::{number, Append};
+use checks::generator::{any::any, appends};
+use checks::random::Random;
+use reading::refusal::refusal;
+use std::time::Instant;
+use wrapper::raw;
+
+/// The answer that both give; or what differs, and the image.
+type Compared = Result<u64, (String, Vec<u8>)>;
+
+fn main() {
+    let mut arguments: Vec<String> = std::env::args().skip(1).collect();
+    let (what, every, compare): (_, _, fn(&mut Random) -> Compared) =
+        match arguments.first().map(String::as_str) {
+            Some("plan") => ("appends", 50_000, plan),
+            Some("cuts") => ("appends at every cut", 100, cut),
+            _ => ("images", 50_000, open),
+        };
+    if what != "images" {
+        arguments.remove(0);
+    }
+    let numbers: Vec<u64> = arguments
+        .iter()
+        .map(|number| number.parse().expect("a number of images or appends"))
+        .collect();
+    let count = numbers.first().copied().unwrap_or(100_000);
+    let first = numbers.get(1).copied().unwrap_or(0);
+    let start = Instant::now();
+    let mut answers = [0u64; 20];
+    for n in 0..count {
+        let seed = first.wrapping_add(n);
+        let random = &mut Random::new(seed.wrapping_mul(0x9e37_79b9_7f4a_7c15));
+        match compare(random) {
+            Ok(answer) => answers[answer as usize] += 1,
+            Err((difference, image)) => {
+                let path = format!("difference-{seed}.journal");
+                std::fs::write(&path, &image).expect("a file for the image");
+                eprintln!("seed {seed}: {difference}; the image is in {path}");
+                std::process::exit(1);
+            }
+        }
+        if (n + 1) % every == 0 || n + 1 == count {
+            println!(
+                "{} {what} in {} s, no difference; by their answers 0 to 19 {answers:?}",
+                n + 1,
+                start.elapsed().as_secs()
+            );
+        }
+    }
+}
+
+fn open(random: &mut Random) -> Compared {
+    let image = any(random);
+    let (expected, answer) = (refusal(&image), raw::open(&image));
+    if answer == expected {
+        Ok(answer)
+    } else {
+        Err((format!("{answer}, and not {expected}"), image))
+    }
+}
+
+/// With the case's own list, and with lists of several lengths.
+fn plan(random: &mut Random) -> Compared {
+    let case = appends::any(random);
+    let append = Append::new(&case.image, case.asked.request());
+    let tried = random.word() >> 8;
+    append
+        .put_all(tried)
+        .and_then(|_| append.put(case.list, tried))
+        .map(|(planned, _)| number(&planned))
+        .map_err(|difference| (format!("{difference}, of {:?}", case.asked), case.image))
+}
+
+fn cut(random: &mut Random) -> Compared {
+    let case = appends::good(random);
+    let tried = random.word() >> 8;
+    cuts::cuts(&case.image, case.asked.request(), 1, tried)
+        .map(|taken| taken.err().unwrap_or(0))
+        .map_err(|difference| (format!("{difference}, of {:?}", case.asked), case.image))
+}

@@ -1,0 +1,22 @@
+//! Good images and mutated ones, by a writer of its own, and appends to them.
+pub mod any;
+pub mod appends;
+pub mod dice;
+pub mod draft;
+mod facts;
+pub mod frame;
+pub mod full;
+pub mod good;
+pub mod grown;
+mod lists;
+pub mod mutation;
+mod parts;
+pub mod questions;
+pub mod render;
+mod render_header;
+mod render_links;
+pub mod rendered;
+pub mod requests;
+mod strays;
+pub mod wish;
+pub mod worked;

@@ -1,0 +1,82 @@
+//! Untargeted mutations: bytes and words anywhere, and inputs that are no journal.
+use crate::generator::dice::{between, edge, once_in, pick};
+use crate::random::Random;
+use reading::image::le64;
+use reading::layout::SIGNATURE;
+
+/// Puts a word at an edge of what was there, or an offset of some object, at a random place.
+pub fn word(random: &mut Random, offsets: &[u64], image: &mut [u8]) {
+    if image.len() < 8 {
+        return;
+    }
+    let at = place(random, image);
+    let near = le64(image, at);
+    let value = if once_in(random, 3) {
+        pick(random, offsets)
+    } else {
+        edge(random, near)
+    };
+    image[at as usize..at as usize + 8].copy_from_slice(&value.to_le_bytes());
+}
+
+/// A multiple of 8, often in the header.
+fn place(random: &mut Random, image: &[u8]) -> u64 {
+    let words = image.len() / 8;
+    if once_in(random, 4) {
+        8 * random.below(words.min(32)) as u64
+    } else {
+        8 * random.below(words) as u64
+    }
+}
+
+/// Puts a byte at a random place.
+pub fn byte(random: &mut Random, image: &mut [u8]) {
+    if image.is_empty() {
+        return;
+    }
+    let at = if once_in(random, 4) {
+        random.below(image.len().min(256))
+    } else {
+        random.below(image.len())
+    };
+    image[at] = match random.below(4) {
+        0 => image[at] ^ 1 << random.below(8),
+        1 => image[at].wrapping_add(1),
+        2 => pick(random, &[0, 1, 2, 3, 4, 5, 6, 7, 8, 255]),
+        _ => random.word() as u8,
+    };
+}
+
+/// Copies a word over another one.
+pub fn copied(random: &mut Random, image: &mut [u8]) {
+    if image.len() < 8 {
+        return;
+    }
+    let (from, to) = (place(random, image), place(random, image));
+    let value = le64(image, from);
+    image[to as usize..to as usize + 8].copy_from_slice(&value.to_le_bytes());
+}
+
+/// An input that is no journal: short, all zero, or anything, with or without the signature.
+pub fn no_journal(random: &mut Random) -> Vec<u8> {
+    let length = pick(random, &[0, 1, 8, 255, 256, 257, 264, 300, 320, 1000]);
+    let mut image = if once_in(random, 2) {
+        vec![0; length]
+    } else {
+        random.bytes(length)
+    };
+    if length >= 256 && !once_in(random, 3) {
+        image[0..8].copy_from_slice(&SIGNATURE);
+        image[12..16].fill(0);
+        if once_in(random, 2) {
+            image[88..96].copy_from_slice(&256u64.to_le_bytes());
+            let arena_size = (length as u64 - 256) / 8 * 8;
+            image[96..104].copy_from_slice(&arena_size.to_le_bytes());
+        }
+        if once_in(random, 2) {
+            let tail = between(random, 30, 50) * 8;
+            image[136..144].copy_from_slice(&tail.to_le_bytes());
+        }
+    }
+    image
+}

@@ -1,0 +1,42 @@
+//! Every cut of an append: journalctl shows the entries from before it, and from the commit store on
+//! also the new one.
+use checks::random::Random;
+use wrapper::groups::groups;
+
+use crate::check::{exported, shown};
+use crate::entries::{grown, logged};
+use crate::export::Entry;
+use crate::file::File;
+use crate::written::{carry_out, nth, planned};
+
+fn entries(image: &[u8]) -> Vec<Entry> {
+    shown(image).into_iter().map(|(_, entry)| entry).collect()
+}
+
+#[test]
+fn every_cut() {
+    for (before, keyed) in [(0, 0), (0, 1), (12, 0), (12, 1)] {
+        let random = &mut Random::new(300 + keyed);
+        let image = grown(random, (3, 2), keyed, before);
+        let mut payloads = logged(random, before + 1);
+        payloads.push(b"NEW=1".to_vec());
+        let list = planned(&image, nth(before + 1), &payloads);
+        let mut whole = image.clone();
+        carry_out(&mut whole, &list);
+        let (old, new) = (entries(&image), entries(&whole));
+        assert_eq!((old.len() as u64, new.len() as u64), (before, before + 1));
+
+        let [_, objects, .., commit, count] = groups(&list);
+        for k in 0..=count {
+            let mut cut = image.clone();
+            assert_eq!(wrapper::carry_out(&mut cut, &list, k as u64), Ok(()));
+            let file = File::new(&cut);
+            let expected = if k < commit { &old } else { &new };
+            assert!(exported(&file, &[]) == *expected, "{k} of {count} stores");
+            // In between there is an ENTRY that n_entries does not count.
+            if k <= objects || k >= commit {
+                assert_eq!(file.verify(), Ok(()), "{k} of {count} stores");
+            }
+        }
+    }
+}

@@ -1,0 +1,67 @@
+//! That the other tests can fail: with one bit changed a file is not passed, or it is shown otherwise.
+use checks::random::Random;
+use reading::image::le64;
+use reading::layout::{array, data, entry, header};
+use wrapper::raw;
+
+use crate::check::exported;
+use crate::entries::grown;
+use crate::export::Entry;
+use crate::file::File;
+
+/// What journalctl shows of a file that it passes: the entries, and the values of a field.
+fn seen(image: &[u8]) -> Option<(Vec<Entry>, Vec<u8>)> {
+    let file = File::new(image);
+    file.verify().ok()?;
+    let values = file.prints(&["--field=MESSAGE"]);
+    Some((exported(&file, &[]), values))
+}
+
+#[test]
+fn one_bit() {
+    for keyed in [0, 1] {
+        let image = grown(&mut Random::new(keyed), (3, 2), keyed, 9);
+        let before = seen(&image);
+        assert!(before.is_some());
+
+        let payload = raw::value(&image, b"MESSAGE", 3);
+        let data = payload.at - data::PAYLOAD;
+        let entry = raw::entry(&image, 4);
+        let array = le64(&image, header::ENTRY_ARRAY_OFFSET);
+        // An offset is changed by 256, anything else by 1.
+        for at in [
+            payload.at + payload.len - 1,
+            data + data::HASH,
+            data + data::NEXT_HASH_OFFSET + 1,
+            data + data::NEXT_FIELD_OFFSET + 1,
+            data + data::ENTRY_OFFSET + 1,
+            data + data::ENTRY_ARRAY_OFFSET + 1,
+            data + data::N_ENTRIES,
+            entry + entry::SEQNUM,
+            entry + entry::REALTIME,
+            entry + entry::MONOTONIC,
+            entry + entry::BOOT_ID,
+            entry + entry::XOR_HASH,
+            entry + entry::ITEMS + 1,
+            array + array::NEXT_ENTRY_ARRAY_OFFSET + 1,
+            array + array::ITEMS + 1,
+            header::SEQNUM_ID,
+            header::TAIL_OBJECT_OFFSET + 1,
+            header::N_OBJECTS,
+            header::N_ENTRIES,
+            header::TAIL_ENTRY_SEQNUM,
+            header::HEAD_ENTRY_SEQNUM,
+            header::ENTRY_ARRAY_OFFSET + 1,
+            header::HEAD_ENTRY_REALTIME,
+            header::TAIL_ENTRY_REALTIME,
+            header::TAIL_ENTRY_MONOTONIC,
+            header::N_DATA,
+            header::N_FIELDS,
+            header::N_ENTRY_ARRAYS,
+        ] {
+            let mut damaged = image.clone();
+            damaged[at as usize] ^= 1;
+            assert!(seen(&damaged) != before, "a bit at {at} is not noticed");
+        }
+    }
+}

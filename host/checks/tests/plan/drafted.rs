@@ -1,0 +1,117 @@
+//! Appends to files that no append made: old DATA of count 0, and the longest images.
+use checks::generator::draft::{Array, Data, Draft, Entry, Field, Item, Part};
+use checks::generator::render::render;
+use checks::generator::worked::{first, request};
+use checks::random::Random;
+use reading::image::arena_end;
+use reading::layout::MOST_BYTES;
+use reading::request::{packed, Request};
+
+use crate::made::{made, Tried};
+
+/// A FIELD with three DATA that no entry holds, and one entry with a fourth.
+fn unheld(keyed: bool, stale: bool) -> Draft {
+    let data = |payload: &[u8], n_entries: u64| {
+        let entry_offset = if stale || n_entries > 0 {
+            Item::Entry(5)
+        } else {
+            Item::Raw(0)
+        };
+        Part::Data(Data {
+            payload: payload.to_vec(),
+            chained: Some(0),
+            listed: true,
+            entry_offset,
+            entry_array: None,
+            n_entries,
+        })
+    };
+    let parts = vec![
+        data(b"LOT=1", 0),
+        data(b"LOT=2", 0),
+        data(b"LOT=3", 1),
+        data(b"LOT=", 0),
+        Part::Field(Field {
+            name: b"LOT".to_vec(),
+            chained: Some(0),
+            heads: true,
+        }),
+        Part::Entry(Entry {
+            seqnum: 1,
+            realtime: 0,
+            monotonic: 0,
+            boot_id: [5; 16],
+            items: vec![2],
+        }),
+        Part::Array(Array {
+            next: None,
+            items: vec![Item::Entry(5), Item::End],
+        }),
+    ];
+    Draft {
+        keyed,
+        committed: vec![5],
+        entry_array: Some(6),
+        spare: 2048,
+        trailing: 3,
+        noise: true,
+        ..Draft::of(parts)
+    }
+}
+
+#[test]
+fn old_data_of_count_0() {
+    let mut tried = Tried::default();
+    for keyed in [false, true] {
+        for stale in [false, true] {
+            let image = render(&unheld(keyed, stale), &mut Random::new(7)).image;
+            for chosen in 1u32..32 {
+                let all: [&[u8]; 5] = [b"LOT=1", b"LOT=2", b"LOT=3", b"LOT=", b"LOT=4"];
+                let some: Vec<&[u8]> = (0..5)
+                    .filter(|n| chosen >> n & 1 == 1)
+                    .map(|n| all[n])
+                    .collect();
+                let fields = packed(&some);
+                let ask = request(&fields, 2, 0, 0);
+                assert_eq!(tried.append(&image, ask), 0);
+                let mut after = image.clone();
+                tried.carried(&mut after, ask);
+                assert_eq!(tried.append(&after, request(&fields, 3, 0, 0)), 0);
+            }
+        }
+    }
+    tried.print("old DATA of count 0");
+}
+
+/// Images of the greatest length whose new objects end with them, or would pass their end.
+#[test]
+fn longest_images() {
+    let mut tried = Tried::default();
+    let fields = first();
+    for keyed in [false, true] {
+        for room in [408, 416, 424, 4096] {
+            // A foreign object up to where the new ones are to begin.
+            let mut draft = unheld(keyed, false);
+            draft.parts = vec![Part::Foreign {
+                kind: 9,
+                size: MOST_BYTES - 256 - 2 * 48 - room,
+            }];
+            (draft.order, draft.committed) = (vec![0], Vec::new());
+            (draft.entry_array, draft.noise) = (None, false);
+            (draft.spare, draft.trailing) = (room, 0);
+            let image = render(&draft, &mut Random::new(3)).image;
+            assert_eq!(arena_end(&image), u128::from(MOST_BYTES));
+            let number = if room < 416 { 18 } else { 0 };
+            let ask = request(&fields, 1, 0, 0);
+            assert_eq!(tried.append(&image, ask), number, "{room}");
+        }
+    }
+    // The largest tables.
+    let image = made(MOST_BYTES as usize, (65_536, 1_024), true);
+    assert_eq!(tried.append(&image, request(&fields, 1, 0, 0)), 0);
+    let other = Request {
+        machine_id: [0; 16],
+        ..request(&fields, 1, 0, 0)
+    };
+    assert_eq!(tried.append(&image, other), 15);
+}

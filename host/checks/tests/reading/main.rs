@@ -1,0 +1,11 @@
+//! The independent reading of the rules, tried on the worked examples, on real files, on good
+//! and damaged images, and at every cut of many appends.
+mod appends;
+mod corpus;
+mod cuts;
+mod examples;
+mod freedoms;
+mod index;
+mod pages;
+mod refusals;
+mod stores;

@@ -1,0 +1,54 @@
+//! Every call that reads an image does with the stack that `docs/HOST.md` names. With too little of it
+//! the whole test ends.
+use checks::generator::worked::{first, second};
+use wrapper::{Planned, Request};
+
+/// "1.3 MiB of stack"
+const STACK: usize = 13 * (1 << 20) / 10;
+
+/// Makes a file, appends to it twice, and asks every lookup.
+fn all_calls(keyed: bool) {
+    let mut image = vec![0; 65_536];
+    let mut list = [0; 16 * 100];
+    assert_eq!(wrapper::new(&mut image, &[2; 64], 1, 1, keyed), Ok(()));
+    for (seqnum, fields) in [(1, first()), (2, second())] {
+        let request = Request {
+            machine: &[2; 16],
+            boot: &[2; 16],
+            seqnum,
+            realtime: seqnum,
+            monotonic: seqnum,
+            fields: &fields,
+        };
+        let Planned::Stores { count } = wrapper::plan(&image, &request, &mut list) else {
+            panic!("the append is taken");
+        };
+        assert_eq!(wrapper::carry_out(&mut image, &list, count), Ok(()));
+    }
+    assert_eq!(wrapper::open(&image), Ok(()));
+    let entry = wrapper::entry(&image, 1)
+        .expect("it opens")
+        .expect("an entry");
+    assert_eq!(wrapper::by_seqnum(&image, 2), Ok(Some(entry)));
+    assert_eq!(wrapper::by_realtime(&image, 2), Ok(Some(entry)));
+    assert_eq!(
+        wrapper::by_payload(&image, b"PRIORITY=2", 1),
+        Ok(Some(entry))
+    );
+    let stamps = wrapper::stamps(&image, entry)
+        .expect("it opens")
+        .expect("an entry");
+    assert_eq!(stamps.seqnum, 2);
+    let payload = wrapper::item(&image, entry, 0);
+    assert_eq!(payload, Some(&b"PRIORITY=2"[..]));
+    assert_eq!(wrapper::value(&image, b"PRIORITY", 0), payload);
+}
+
+#[test]
+fn a_small_stack() {
+    for keyed in [false, true] {
+        let thread = std::thread::Builder::new().stack_size(STACK);
+        let calls = thread.spawn(move || all_calls(keyed)).expect("a thread");
+        calls.join().expect("every call ends well");
+    }
+}

@@ -1,0 +1,43 @@
+//! Bytes as a person can read them, on one line and without harm to a terminal.
+
+/// Printing characters stand for themselves, but a backslash is `\\`. Every byte of anything else
+/// is `\xNN`: control characters with newlines and tabs, characters that are not seen or turn the
+/// line around, and bytes that are no UTF-8. So no two byte strings are shown alike.
+pub fn shown(bytes: &[u8]) -> String {
+    let mut text = String::with_capacity(bytes.len());
+    for chunk in bytes.utf8_chunks() {
+        for character in chunk.valid().chars() {
+            match character {
+                '\\' => text.push_str("\\\\"),
+                _ if prints(character) => text.push(character),
+                _ => hex(&mut text, character.encode_utf8(&mut [0; 4]).as_bytes()),
+            }
+        }
+        hex(&mut text, chunk.invalid());
+    }
+    text
+}
+
+fn hex(text: &mut String, bytes: &[u8]) {
+    for byte in bytes {
+        text.push_str(&format!("\\x{byte:02x}"));
+    }
+}
+
+/// Whether a character is seen on paper. Beyond ASCII the standard library knows: its escaping for
+/// debugging leaves such a character alone, after another one also if it is an accent.
+fn prints(character: char) -> bool {
+    match character {
+        ' '..='~' => true,
+        _ if character.is_ascii() => false,
+        _ => format!("a{character}").escape_debug().nth(1) == Some(character),
+    }
+}
+
+/// A count and what is counted.
+pub fn counted(count: usize, one: &str, more: &str) -> String {
+    match count {
+        1 => format!("1 {one}"),
+        _ => format!("{count} {more}"),
+    }
+}

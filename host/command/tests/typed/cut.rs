@@ -1,0 +1,132 @@
+//! An append that is ended at each of its syncs, one whose sync fails, one on a full disk, and one to a
+//! file that another program writes at the same time.
+use crate::expected::stores;
+use crate::person::{append, asked, bytes, file, folder, made, options, program, said, Said};
+use reading::carry::carry_out;
+use std::path::{Path, PathBuf};
+use std::process::Command;
+use std::sync::OnceLock;
+
+/// The program with `cut.c` before the C library, told one thing.
+pub fn preloaded<'a>(command: &'a mut Command, name: &str, number: usize) -> &'a mut Command {
+    static BUILT: OnceLock<PathBuf> = OnceLock::new();
+    let library = BUILT.get_or_init(|| {
+        let library = Path::new(env!("CARGO_TARGET_TMPDIR")).join("cut.so");
+        let status = Command::new("cc")
+            .args(["-Wall", "-Wextra", "-Werror", "-shared", "-fPIC", "-o"])
+            .arg(&library)
+            .arg(concat!(env!("CARGO_MANIFEST_DIR"), "/tests/typed/cut.c"))
+            .arg("-ldl")
+            .status();
+        assert!(status.expect("cc is there, as for cargo").success());
+        library
+    });
+    command
+        .env("LD_PRELOAD", library)
+        .env(name, number.to_string())
+}
+
+/// An append of one new and one old field as entry 3, told one thing.
+fn told(path: &Path, name: &str, number: usize) -> Said {
+    let mut command = program();
+    preloaded(&mut command, name, number);
+    command.arg("append").arg(path).args(options(3));
+    said(command.args(["A=1", "B=2"]))
+}
+
+/// A file with two entries; the same in the course of the append of a third, at each of its syncs;
+/// and after it.
+fn course(folder: &Path) -> (Vec<u8>, Vec<Vec<u8>>) {
+    let path = made(folder, "two.journal", "4096");
+    append(&path, 1, &["A=1"]).done();
+    append(&path, 2, &["A=1"]).done();
+    let before = bytes(&path);
+    let list = stores(&before, 3, &[b"A=1", b"B=2"]);
+    let ends = wrapper::groups::syncs(&list);
+    let cuts = ends.iter().map(|&end| {
+        let mut image = before.clone();
+        assert_eq!(carry_out(&mut image, &list, end as u64), 0);
+        image
+    });
+    let cuts = cuts.collect();
+    // There are stores before each sync here.
+    assert!(ends.windows(2).all(|two| two[0] < two[1]), "{ends:?}");
+    (before, cuts)
+}
+
+/// Ended at its n-th sync, the file has the stores of the groups up to there and no others. It opens, it
+/// lists as before or after, and it takes no append but where only the last sync was missing.
+#[test]
+fn ended_at_every_sync() {
+    let folder = folder("cut");
+    let (before, cuts) = course(&folder);
+    assert_eq!(cuts.len(), 6);
+    let listed = |image: &[u8], name: &str| asked("list", &file(&folder, name, image)).done();
+    let (old, new) = (listed(&before, "old"), listed(&cuts[5], "new"));
+    assert_eq!((old.lines().count(), new.lines().count()), (3, 4));
+    for (cut, n) in cuts.iter().zip(1..) {
+        let path = file(&folder, "cut.journal", &before);
+        let ended = told(&path, "KILL_AT", n);
+        assert_eq!((ended.status, &*ended.out, &*ended.err), (None, "", ""));
+        assert!(bytes(&path) == *cut, "at sync {n}");
+        let (text, count) = if n < 5 { (&old, 2) } else { (&new, 3) };
+        let checked = asked("check", &path).done();
+        assert_eq!(checked, format!("opens, {count} entries\n"));
+        assert_eq!(asked("list", &path).done(), *text, "at sync {n}");
+        match n {
+            6 => drop(append(&path, 4, &["A=1"]).done()),
+            _ => {
+                let words = append(&path, 4, &["A=1"]).failed_with(&path);
+                let expected =
+                    "the file is in use, or an append to it was cut off: it can be read, \
+                                append to a new file (refusal 13: state not 0 (offline))";
+                assert_eq!(words, expected);
+                assert!(bytes(&path) == *cut);
+            }
+        }
+    }
+    // There is no seventh.
+    let path = file(&folder, "cut.journal", &before);
+    assert!(told(&path, "KILL_AT", 7).done().ends_with(", 6 syncs\n"));
+    assert!(bytes(&path) == cuts[5]);
+}
+
+/// Where a sync fails, nothing more is stored.
+#[test]
+fn failing_at_every_sync() {
+    let folder = folder("fail");
+    let (before, cuts) = course(&folder);
+    let groups = [2, 3, 4, 6, 7, 8];
+    for ((cut, group), n) in cuts.iter().zip(groups).zip(1..) {
+        let path = file(&folder, "fail.journal", &before);
+        let words = told(&path, "FAIL_AT", n).failed_with(&path);
+        let start = format!("group {group} of 8 can't be synced: Input/output error");
+        assert!(words.starts_with(&start), "{words}");
+        assert!(bytes(&path) == *cut, "at sync {n}");
+    }
+}
+
+#[test]
+fn a_full_disk() {
+    let folder = folder("full-disk");
+    let (before, _) = course(&folder);
+    let path = file(&folder, "full.journal", &before);
+    let words = told(&path, "FULL", 1).failed_with(&path);
+    assert_eq!(words, "no room on the disk");
+    assert!(bytes(&path) == before);
+}
+
+/// A program that does not go by the lock writes between the reading of the file and the first store.
+#[test]
+fn written_by_another() {
+    let folder = folder("written");
+    let (mut before, _) = course(&folder);
+    let path = file(&folder, "written.journal", &before);
+    let words = told(&path, "WRITE", 1).failed_with(&path);
+    assert_eq!(
+        words,
+        "another program writes it, and does not go by its lock"
+    );
+    *before.last_mut().expect("it has bytes") = b'x';
+    assert!(bytes(&path) == before);
+}

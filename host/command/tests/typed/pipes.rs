@@ -1,0 +1,68 @@
+//! Where the answer goes, and what the program has to work with.
+use crate::person::{file, folder, program, said, typed, Said};
+use checks::generator::full::full;
+use std::fs::File;
+use std::io::{BufRead, BufReader, Read};
+use std::os::unix::process::ExitStatusExt;
+use std::path::PathBuf;
+use std::process::{Command, Stdio};
+
+/// A file whose list does not fit a pipe.
+fn long(name: &str) -> PathBuf {
+    let image = full(&[3_000], false, 0);
+    file(&folder(name), "long.journal", &image)
+}
+
+/// `list FILE | head -n 2`: the pipe is closed after the second line, and nothing is said.
+#[test]
+fn a_pipe_that_is_closed() {
+    let mut child = program()
+        .arg("list")
+        .arg(long("closed-pipe"))
+        .stdout(Stdio::piped())
+        .stderr(Stdio::piped())
+        .spawn()
+        .expect("it runs");
+    let mut lines = BufReader::new(child.stdout.take().expect("a pipe")).lines();
+    let heading = lines.next().expect("a heading").expect("text");
+    assert!(heading.starts_with("seqnum  local time "), "{heading}");
+    let first = lines.next().expect("an entry").expect("text");
+    assert!(
+        first.starts_with("     1  1970-01-01 00:00:00.000001 +0000  "),
+        "{first}"
+    );
+    drop(lines);
+    let mut words = String::new();
+    let mut err = child.stderr.take().expect("a pipe");
+    err.read_to_string(&mut words).expect("text");
+    assert_eq!(words, "");
+    let sigpipe = 13;
+    assert_eq!(child.wait().expect("it ends").signal(), Some(sigpipe));
+}
+
+/// A disk that takes no answer is not taken for success.
+#[test]
+fn an_answer_that_can_not_be_written() {
+    let path = long("full-output");
+    for command in ["list", "check"] {
+        let full = File::options().write(true).open("/dev/full");
+        let full = full.expect("it is there");
+        let answer = said(program().arg(command).arg(&path).stdout(full));
+        let words = answer.failed(1);
+        assert_eq!(words, "the answer can't be written: no room on the disk");
+    }
+}
+
+/// The first thread's stack may be shorter than what the library needs.
+#[test]
+fn a_short_stack() {
+    let path = long("stack");
+    let output = Command::new("sh")
+        .args(["-c", "ulimit -s 512; exec \"$0\" find \"$1\" --seqnum 3000"])
+        .arg(env!("CARGO_BIN_EXE_journal"))
+        .arg(&path)
+        .env("TZ", "UTC0")
+        .output();
+    let found = Said::from(output.expect("sh is there")).done();
+    assert_eq!(found, typed("find", &path, &["--seqnum", "3000"]).done());
+}

@@ -1,0 +1,180 @@
+//! Every refusal by its number, and a file that stays as it was.
+use crate::person::{append, asked, bytes, file, folder, made, options, typed, MACHINE};
+use checks::corpus::{self, FILES};
+use checks::generator::frame::set;
+use checks::generator::mutation::targeted;
+use checks::random::Random;
+use reading::image::le64;
+use reading::layout::header;
+use reading::refusal::{refusal, CLAUSES};
+use std::path::Path;
+
+/// What every command says of a file that does not open.
+fn all_refuse(path: &Path) -> u64 {
+    let before = bytes(path);
+    let number = asked("check", path).refused(path);
+    let others = [
+        asked("list", path),
+        typed("show", path, &["1"]),
+        typed("find", path, &["--seqnum", "1"]),
+        typed("find", path, &["--time", "1"]),
+        typed("find", path, &["--field", "A=1"]),
+        typed("values", path, &["A"]),
+        append(path, 1, &["A=1"]),
+    ];
+    for said in others {
+        assert_eq!(said.refused(path), number);
+    }
+    assert_eq!(bytes(path), before);
+    number
+}
+
+/// 1 to 11: a damage for each clause.
+#[test]
+fn damaged_files() {
+    let folder = folder("damaged");
+    let mut met = [0; 12];
+    for &clause in CLAUSES {
+        let image = targeted(clause, &mut Random::new(clause.number));
+        let path = file(&folder, "damaged.journal", &image);
+        let number = refusal(&image);
+        if number == 0 {
+            continue;
+        }
+        assert_eq!(all_refuse(&path), number, "{clause:?}");
+        met[number as usize] += 1;
+    }
+    assert!(met[1..].iter().all(|&n| n > 0), "{met:?}");
+}
+
+#[test]
+fn a_sentence_and_then_the_rule() {
+    let path = corpus::path("trixie-k1-c1-system");
+    let words = asked("check", &path).failed_with(&path);
+    let expected = "the file has a form that is not read here, such as compressed or compact: use \
+                    journalctl for it (refusal 4: an incompatible bit other than bit 2)";
+    assert_eq!(words, expected);
+    let path = corpus::path("trixie-k1-c0-system");
+    let words = asked("check", &path).failed_with(&path);
+    let expected =
+        "the file's header does not fit it: its end is missing, or a newer systemd wrote it, \
+                    and then journalctl can read it (refusal 5: header_size not 256, arena_size \
+                    not a multiple of 8, or their sum above the image length)";
+    assert_eq!(words, expected);
+}
+
+/// Of files of journald: those that do not open, and what an append to the others is refused by.
+#[test]
+fn real_files() {
+    let folder = folder("real");
+    for (name, number) in FILES {
+        let path = file(&folder, name, &corpus::image(name));
+        if number != 0 {
+            assert_eq!(all_refuse(&path), number, "{name}");
+            continue;
+        }
+        let before = bytes(&path);
+        let refused = append(&path, 1_000_000, &["A=1"]).refused(&path);
+        let expected = match name {
+            "sealed-bullseye-c0-system" => 12,
+            "bullseye-k0-c0-system" => 15,
+            _ => 13,
+        };
+        assert_eq!(refused, expected, "{name}");
+        assert_eq!(bytes(&path), before);
+    }
+}
+
+/// 14 to 18, and what is said of the file itself.
+#[test]
+fn appends() {
+    let folder = folder("refused-appends");
+    let path = made(&folder, "one.journal", "4096");
+    append(&path, 5, &["A=1"]).done();
+    let before = bytes(&path);
+
+    let mut untidy = before.clone();
+    set(
+        &mut untidy,
+        header::N_OBJECTS,
+        le64(&before, header::N_OBJECTS) + 1,
+    );
+    let other = file(&folder, "untidy.journal", &untidy);
+    assert_eq!(append(&other, 6, &["A=1"]).refused(&other), 14);
+    assert_eq!(bytes(&other), untidy);
+
+    let words = ["--machine", "ffffffffffffffffffffffffffffffff", "A=1"];
+    let said = typed("append", &path, &words).failed_with(&path);
+    let expected = format!(
+        "the file belongs to another machine: append to it there, or to a file of this machine; its \
+         machine id is {MACHINE} (refusal 15: machine id differs)"
+    );
+    assert_eq!(said, expected);
+
+    let long = format!("A={}", "x".repeat(4_095));
+    let many: Vec<String> = (0..65).map(|n| format!("A={n}")).collect();
+    let many: Vec<&str> = many.iter().map(String::as_str).collect();
+    let wrong = [
+        &["a=1"][..],
+        &["A"],
+        &["=1"],
+        &["1A=1"],
+        &["A=1", ""],
+        &[&long],
+        &many,
+    ];
+    for fields in wrong {
+        assert_eq!(append(&path, 6, fields).refused(&path), 16, "{fields:?}");
+    }
+
+    assert_eq!(append(&path, 0, &["A=1"]).refused(&path), 17);
+    let said = append(&path, 5, &["A=1"]).failed_with(&path);
+    let start = "the entry would not come after the last one: give a higher sequence number, and \
+                 times that are not earlier; the last entry is 5 at 1700000000000005 (refusal 17: \
+                 seqnum 0; or ";
+    assert!(said.starts_with(start), "{said}");
+    for name in ["--time", "--monotonic"] {
+        let mut words = options(6);
+        let place = words
+            .iter()
+            .position(|word| word == name)
+            .expect("an option");
+        words[place + 1] = "1".to_string();
+        words.push("A=1".to_string());
+        assert_eq!(typed("append", &path, &words).refused(&path), 17, "{name}");
+    }
+
+    let said = append(&path, 6, &[&long[..4_000]]).failed_with(&path);
+    let expected = "the file is full: make a new one \
+                    (refusal 18: the new objects pass the arena's end)";
+    assert_eq!(said, expected);
+    assert_eq!(bytes(&path), before);
+}
+
+/// 20, and no file.
+#[test]
+fn new_files() {
+    let folder = folder("refused-new");
+    let path = folder.join("new.journal");
+    let wrong = [
+        &["--size", "312", "--data-cells", "1", "--field-cells", "1"][..],
+        &["--size", "0"],
+        &["--size", "65537"],
+        &["--size", "8388616"],
+        &["--size", "18446744073709551615"],
+        &["--data-cells", "0"],
+        &["--data-cells", "65537"],
+        &["--field-cells", "0"],
+        &["--field-cells", "1025"],
+    ];
+    for words in wrong {
+        assert_eq!(typed("new", &path, words).refused(&path), 20, "{words:?}");
+        assert!(!path.exists());
+    }
+    let said = typed("new", &path, wrong[0]).failed_with(&path);
+    let expected = "a file of this size and with these numbers of cells can't be made: give \
+                    another size, or other numbers (refusal 20: length a multiple of 8, at most \
+                    8,388,608; 1 to 65,536 data cells, 1 to 1,024 field cells; keyed or not; \
+                    otherwise, or if the tables do not fit, 20)";
+    assert_eq!(said, expected);
+}

@@ -1,0 +1,98 @@
+//! Help, and what is not typed as it has to be.
+use crate::person::{bytes, folder, made, program, said};
+
+#[test]
+fn help() {
+    for words in [&["--help"][..], &["help"], &["-h"], &["list", "--help"]] {
+        let text = said(program().args(words)).done();
+        assert!(text.lines().count() <= 24, "{}", text.lines().count());
+        assert!(text.lines().all(|line| line.chars().count() <= 80));
+        for command in ["list", "show", "find", "values", "check", "new", "append"] {
+            let start = format!("\n  {command} FILE");
+            assert!(text.contains(&start), "{command}");
+        }
+    }
+}
+
+/// Each is one line with status 2, and no file comes or changes.
+#[test]
+fn wrong_words() {
+    let folder = folder("usage");
+    let path = made(&folder, "one.journal", "4096");
+    let before = bytes(&path);
+    let file = path.to_str().expect("a name of text");
+    let absent = folder.join("absent.journal");
+    let other = absent.to_str().expect("a name of text");
+    let id = "0123456789abcdef0123456789abcde";
+    let wrong: &[(&[&str], &str)] = &[
+        (&[], "a command is missing"),
+        (&["remove", file], "no command remove"),
+        (&["list"], "the command is list FILE"),
+        (&["list", file, file], "the command is list FILE"),
+        (&["list", file, "--all"], "no option --all"),
+        (&["list", "-"], "no option -"),
+        (&["show", file], "the command is show FILE SEQNUM"),
+        (&["show", file, "one"], "SEQNUM one: no number"),
+        (&["show", file, ""], "SEQNUM : no number"),
+        (&["show", file, "+1"], "SEQNUM +1: no number"),
+        (
+            &["show", file, "18446744073709551616"],
+            "SEQNUM 18446744073709551616: above 2^64 - 1",
+        ),
+        (&["find", file], "the command is find FILE and one of "),
+        (
+            &["find", file, "--seqnum", "1", "--time", "1"],
+            "the command is find FILE and one of ",
+        ),
+        (&["find", file, "--seqnum"], "--seqnum needs a value"),
+        (
+            &["find", file, "--seqnum", "1", "--seqnum=2"],
+            "--seqnum is given twice",
+        ),
+        (&["find", file, "--field", "A"], "--field A: no NAME=VALUE"),
+        (&["values", file], "the command is values FILE NAME"),
+        (&["check"], "the command is check FILE"),
+        (&["new"], "the command is new FILE and options"),
+        (&["new", other, "--size", "1k"], "--size 1k: no number"),
+        (&["new", other, "--keyed"], "no option --keyed"),
+        (
+            &["new", other, "--machine", id],
+            "--machine 0123456789abcdef0123456789abcde: no id of 32 ",
+        ),
+        (
+            &["new", other, "--boot", &format!("{id}-")],
+            "--boot 0123456789abcdef0123456789abcde-: no id of 32 ",
+        ),
+        (
+            &["new", other, "--boot", &format!("+{id}")],
+            "--boot +0123456789abcdef0123456789abcde: no id of 32 ",
+        ),
+        (
+            &["append"],
+            "the command is append FILE, options and fields",
+        ),
+        (&["append", file], "a field NAME=VALUE is missing"),
+        (
+            &["append", file, "--monotonic", "-1", "A=1"],
+            "--monotonic -1: no number",
+        ),
+    ];
+    for (words, start) in wrong {
+        let line = said(program().args(*words)).failed(2);
+        assert!(line.starts_with(start), "{words:?}: {line}");
+        assert!(line.ends_with(" (--help tells more)"), "{words:?}: {line}");
+    }
+    assert_eq!(bytes(&path), before);
+    assert!(!absent.exists());
+}
+
+/// After `--` stands what looks like an option.
+#[test]
+fn a_file_named_like_an_option() {
+    let folder = folder("dashes");
+    let new = ["new", "--size", "4096", "--", "-one.journal"];
+    said(program().args(new).current_dir(&folder)).done();
+    let check = ["check", "--", "-one.journal"];
+    let checked = said(program().args(check).current_dir(&folder)).done();
+    assert_eq!(checked, "opens, 0 entries\n");
+}

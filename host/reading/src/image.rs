@@ -1,0 +1,187 @@
+//! The file on disk: numbers, objects and the walk over them.
+//!
+//! "Numbers are unsigned and little-endian, 64 bits unless said."
+use std::collections::BTreeMap;
+
+use super::layout::{array, data, entry, field, header, kind, table, FIRST_OBJECT, KEYED_HASH};
+use super::{lookup3::hashlittle2, siphash::siphash24};
+
+/// The 64-bit number at a place.
+pub fn le64(bytes: &[u8], at: u64) -> u64 {
+    little_endian(bytes, at, 8)
+}
+
+/// The 32-bit number at a place.
+pub fn le32(bytes: &[u8], at: u64) -> u32 {
+    little_endian(bytes, at, 4) as u32
+}
+
+/// The number in so many bytes from a place on.
+fn little_endian(bytes: &[u8], at: u64, count: usize) -> u64 {
+    let at = at as usize;
+    (0..count).fold(0, |value, i| value | (bytes[at + i] as u64) << (8 * i))
+}
+
+/// The 16 bytes of an id at a place.
+pub fn id(bytes: &[u8], at: u64) -> [u8; 16] {
+    let at = at as usize;
+    let mut value = [0u8; 16];
+    value.copy_from_slice(&bytes[at..at + 16]);
+    value
+}
+
+/// The end of the arena as the mathematical sum, which never wraps.
+pub fn arena_end(bytes: &[u8]) -> u128 {
+    le64(bytes, header::HEADER_SIZE) as u128 + le64(bytes, header::ARENA_SIZE) as u128
+}
+
+/// An object: "type, flags, 6 reserved bytes, then size at 8".
+#[derive(Clone, Copy, Debug, PartialEq, Eq)]
+pub struct Object {
+    pub offset: u64,
+    pub kind: u8,
+    pub flags: u8,
+    pub size: u64,
+}
+
+impl Object {
+    /// The object at a place whose 16 header bytes lie in the image.
+    pub fn read(bytes: &[u8], offset: u64) -> Object {
+        Object {
+            offset,
+            kind: bytes[offset as usize],
+            flags: bytes[offset as usize + 1],
+            size: le64(bytes, offset + 8),
+        }
+    }
+
+    /// "the next object starts at its offset plus its size rounded up to a multiple of 8"
+    pub fn next(&self) -> u128 {
+        let size = self.size as u128;
+        self.offset as u128 + (size + 7) / 8 * 8
+    }
+}
+
+/// An image that passes refusals 1 to 6, with its objects from 256 up to and
+/// including the one at tail_object_offset.
+pub struct Image<'a> {
+    pub bytes: &'a [u8],
+    pub objects: Vec<Object>,
+    by_offset: BTreeMap<u64, Object>,
+}
+
+impl<'a> Image<'a> {
+    /// Walks an image that passes refusals 1 to 6.
+    pub fn walked(bytes: &'a [u8]) -> Image<'a> {
+        let tail_object_offset = le64(bytes, header::TAIL_OBJECT_OFFSET);
+        let mut objects = Vec::new();
+        let mut by_offset = BTreeMap::new();
+        let mut offset = FIRST_OBJECT;
+        while offset <= tail_object_offset {
+            let object = Object::read(bytes, offset);
+            objects.push(object);
+            by_offset.insert(offset, object);
+            offset = object.next() as u64;
+        }
+        Image {
+            bytes,
+            objects,
+            by_offset,
+        }
+    }
+
+    pub fn word(&self, at: u64) -> u64 {
+        le64(self.bytes, at)
+    }
+
+    /// The walked object at an offset, if one starts there.
+    pub fn object_at(&self, offset: u64) -> Option<Object> {
+        self.by_offset.get(&offset).copied()
+    }
+
+    /// Whether an offset lands on a walked object of a kind.
+    pub fn lands(&self, offset: u64, kind: u8) -> bool {
+        match self.object_at(offset) {
+            Some(object) => object.kind == kind,
+            None => false,
+        }
+    }
+
+    /// The walked objects of a kind, in file order.
+    pub fn of_kind(&self, kind: u8) -> Vec<Object> {
+        self.objects
+            .iter()
+            .copied()
+            .filter(|object| object.kind == kind)
+            .collect()
+    }
+
+    /// A DATA's payload (from 64) or a FIELD's name (from 40), without padding.
+    pub fn payload(&self, object: &Object) -> &'a [u8] {
+        let start = if object.kind == kind::DATA {
+            data::PAYLOAD
+        } else {
+            field::NAME
+        };
+        &self.bytes[(object.offset + start) as usize..(object.offset + object.size) as usize]
+    }
+
+    /// An ENTRY's items (DATA offset, hash).
+    pub fn entry_items(&self, object: &Object) -> Vec<(u64, u64)> {
+        self.pairs(object, entry::ITEMS)
+    }
+
+    /// A table's cells (head, tail).
+    pub fn cells(&self, object: &Object) -> Vec<(u64, u64)> {
+        self.pairs(object, table::CELLS)
+    }
+
+    fn pairs(&self, object: &Object, start: u64) -> Vec<(u64, u64)> {
+        let n = (object.size - start) / 16;
+        (0..n)
+            .map(|i| object.offset + start + 16 * i)
+            .map(|at| (self.word(at), self.word(at + 8)))
+            .collect()
+    }
+
+    /// The items of the chain of ENTRY_ARRAYs that starts at an offset, each with the place
+    /// of its word; empty for offset 0. The links have passed refusal 8.
+    pub fn chain_items(&self, first: u64) -> Vec<(u64, u64)> {
+        let mut items = Vec::new();
+        for object in self.arrays(first) {
+            let n = (object.size - array::ITEMS) / 8;
+            for i in 0..n {
+                let at = object.offset + array::ITEMS + 8 * i;
+                items.push((at, self.word(at)));
+            }
+        }
+        items
+    }
+
+    /// The ENTRY_ARRAYs of the chain that starts at an offset.
+    pub fn arrays(&self, first: u64) -> Vec<Object> {
+        let mut arrays = Vec::new();
+        let mut offset = first;
+        while offset != 0 {
+            arrays.push(self.object_at(offset).expect("refusal 8 passed"));
+            offset = self.word(offset + array::NEXT_ENTRY_ARRAY_OFFSET);
+        }
+        arrays
+    }
+
+    /// "Hash of a payload or name: SipHash-2-4 keyed by file_id if incompatible bit 2 is set,
+    /// else hashlittle2 with its first word high."
+    pub fn hash(&self, bytes: &[u8]) -> u64 {
+        if le32(self.bytes, header::INCOMPATIBLE_FLAGS) & KEYED_HASH != 0 {
+            siphash24(&id(self.bytes, header::FILE_ID), bytes)
+        } else {
+            hashlittle2(bytes)
+        }
+    }
+}
+
+/// The name of a payload: "the name ends at the first `=`". None without `=`.
+pub fn name_of(payload: &[u8]) -> Option<&[u8]> {
+    let end = payload.iter().position(|&byte| byte == b'=')?;
+    Some(&payload[..end])
+}

@@ -1,0 +1,19 @@
+//! The rules and the published hashes once more, written from the documents in plain Rust.
+pub mod after;
+pub mod ask;
+pub mod carry;
+pub mod committed;
+pub mod fit;
+pub mod image;
+pub mod index;
+pub mod layout;
+pub mod listing;
+pub mod lookup;
+pub mod lookup3;
+pub mod new_file;
+pub mod pages;
+pub mod plan;
+pub mod refusal;
+pub mod request;
+pub mod room;
+pub mod siphash;

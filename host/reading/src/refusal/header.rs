@@ -1,0 +1,56 @@
+//! Refusals 1 to 5.
+use super::clause::*;
+use crate::image::{arena_end, le32, le64};
+use crate::layout::{header, MOST_BYTES, SIGNATURE};
+
+/// 1: "fewer than 256 bytes"
+pub fn one(bytes: &[u8], found: &mut Vec<Clause>) {
+    if bytes.len() < 256 {
+        found.push(SHORT);
+    }
+}
+
+/// 2: "more than 8,388,608 bytes"
+pub fn two(bytes: &[u8], found: &mut Vec<Clause>) {
+    if bytes.len() as u64 > MOST_BYTES {
+        found.push(LONG);
+    }
+}
+
+/// 3: "signature differs"
+pub fn three(bytes: &[u8], found: &mut Vec<Clause>) {
+    if bytes[0..8] != SIGNATURE {
+        found.push(SIGNATURE_DIFFERS);
+    }
+}
+
+/// 4: "an incompatible bit other than bit 2"
+pub fn four(bytes: &[u8], found: &mut Vec<Clause>) {
+    let incompatible_flags = le32(bytes, header::INCOMPATIBLE_FLAGS);
+    for bit in 0..32 {
+        if bit != 2 && incompatible_flags >> bit & 1 == 1 {
+            found.push(INCOMPATIBLE_BIT);
+        }
+    }
+}
+
+/// 5: "header_size not 256, arena_size not a multiple of 8, or their sum above the image
+/// length". The sum is the mathematical one.
+pub fn five(bytes: &[u8], found: &mut Vec<Clause>) {
+    let header_size = le64(bytes, header::HEADER_SIZE);
+    let arena_size = le64(bytes, header::ARENA_SIZE);
+    if header_size != 256 {
+        found.push(HEADER_SIZE);
+    }
+    if arena_size % 8 != 0 {
+        found.push(ARENA_NOT_EIGHTS);
+    }
+    let sum = arena_end(bytes);
+    if sum > bytes.len() as u128 {
+        found.push(if sum >= 1 << 64 {
+            SUM_ABOVE_64_BITS
+        } else {
+            SUM_ABOVE_LENGTH
+        });
+    }
+}

@@ -1,0 +1,94 @@
+//! Refusal 6.
+use super::clause::*;
+use crate::image::{arena_end, le64, Object};
+use crate::layout::{header, kind, FIRST_OBJECT};
+
+/// 6: "the walk from 256, stopped once past tail_object_offset, misses it (0 included); an
+/// object passes the arena's end; type 0; one of flag bits 0 to 2 set; a size wrong".
+///
+/// Every object from 256 up to and including the one at tail_object_offset is judged, and
+/// nothing after it.
+pub fn six(bytes: &[u8], found: &mut Vec<Clause>) {
+    let tail_object_offset = le64(bytes, header::TAIL_OBJECT_OFFSET);
+    let arena_end = arena_end(bytes);
+    if tail_object_offset == 0 {
+        found.push(TAIL_ZERO);
+        return;
+    }
+    if tail_object_offset < FIRST_OBJECT {
+        found.push(TAIL_IN_HEADER);
+        return;
+    }
+    if tail_object_offset as u128 >= arena_end {
+        found.push(TAIL_PAST_END);
+    }
+    let mut offset = FIRST_OBJECT;
+    while offset <= tail_object_offset && (offset as u128) < arena_end {
+        if offset as u128 + 16 > arena_end {
+            found.push(OBJECT_HEADER_PASSES_END);
+            return;
+        }
+        let object = Object::read(bytes, offset);
+        judge(&object, found);
+        let next = object.next();
+        if offset < tail_object_offset && (tail_object_offset as u128) < next {
+            found.push(TAIL_IN_OBJECT);
+        }
+        if object.offset as u128 + object.size as u128 > arena_end {
+            found.push(OBJECT_PASSES_END);
+            return;
+        }
+        if next == offset as u128 {
+            // A size of 0: the walk stands still. Every type refuses this size.
+            assert!(!found.is_empty());
+            return;
+        }
+        offset = next as u64;
+    }
+}
+
+/// Type, flags and size of one object.
+fn judge(object: &Object, found: &mut Vec<Clause>) {
+    if object.kind == 0 {
+        found.push(TYPE_ZERO);
+    }
+    for (bit, clause) in [FLAG_BIT_0, FLAG_BIT_1, FLAG_BIT_2].into_iter().enumerate() {
+        if object.flags >> bit & 1 == 1 {
+            found.push(clause);
+        }
+    }
+    let size = object.size;
+    let mut wrong = |is: bool, clause: Clause| {
+        if is {
+            found.push(clause);
+        }
+    };
+    match object.kind {
+        0 => {}
+        kind::DATA => wrong(size < 65, DATA_BELOW),
+        kind::FIELD => wrong(size < 41, FIELD_BELOW),
+        kind::ENTRY => {
+            wrong(size < 80, ENTRY_BELOW);
+            wrong(!is_head_and_parts(size, 64, 16), ENTRY_NOT_ITEMS);
+        }
+        kind::DATA_HASH_TABLE => {
+            wrong(size < 32, DATA_TABLE_BELOW);
+            wrong(!is_head_and_parts(size, 16, 16), DATA_TABLE_NOT_CELLS);
+        }
+        kind::FIELD_HASH_TABLE => {
+            wrong(size < 32, FIELD_TABLE_BELOW);
+            wrong(!is_head_and_parts(size, 16, 16), FIELD_TABLE_NOT_CELLS);
+        }
+        kind::ENTRY_ARRAY => {
+            wrong(size < 32, ARRAY_BELOW);
+            wrong(!is_head_and_parts(size, 24, 8), ARRAY_NOT_ITEMS);
+        }
+        kind::TAG => wrong(size != 64, TAG_NOT_64),
+        _ => wrong(size < 16, FOREIGN_BELOW),
+    }
+}
+
+/// Whether a size is head + part * n for some n of 0 and up.
+fn is_head_and_parts(size: u64, head: u64, part: u64) -> bool {
+    size >= head && (size - head) % part == 0
+}

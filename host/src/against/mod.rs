@@ -1,6 +1,0 @@
-//! The archive held against the reading, for tests and long runs. What differs comes back as a text.
-pub mod cuts;
-pub mod lent;
-pub mod lookups;
-pub mod orders;
-pub mod plan;

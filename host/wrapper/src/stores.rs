@@ -1,0 +1,56 @@
+//! New files, the plan of an append, and carrying out.
+use crate::raw::{self, Request};
+use crate::refusal::Refusal;
+
+/// What an append says.
+#[derive(Clone, Copy, Debug, PartialEq, Eq)]
+pub enum Planned {
+    /// 1 to 18, and the list is as it was.
+    Refused(Refusal),
+    /// 19: the list has fewer whole stores than `need`, and is as it was.
+    TooShort { need: u64 },
+    /// The append is taken: so many stores stand at the front of the list.
+    Stores { count: u64 },
+}
+
+impl Planned {
+    /// The refusal, 19 too; none for an append that is taken.
+    pub fn refusal(&self) -> Option<Refusal> {
+        match self {
+            Planned::Refused(refusal) => Some(*refusal),
+            Planned::TooShort { .. } => Refusal::new(19),
+            Planned::Stores { .. } => None,
+        }
+    }
+}
+
+/// Makes a new file of all of `image`, with file, machine, boot and seqnum id one after the other
+/// in `ids`; or 20, and no byte changes.
+pub fn new(
+    image: &mut [u8],
+    ids: &[u8; 64],
+    data_cells: u64,
+    field_cells: u64,
+    keyed: bool,
+) -> Result<(), Refusal> {
+    let keyed = u64::from(keyed);
+    Refusal::check(raw::new(image, ids, data_cells, field_cells, keyed))
+}
+
+/// Works out the stores of an append, to the front of the list, 16 bytes each. The image is not
+/// written: `carry_out` does that.
+pub fn plan(image: &[u8], request: &Request, stores: &mut [u8]) -> Planned {
+    let answer = raw::plan(image, request, stores);
+    // The refusal and 256 times the number of stores. Any other refusal than 19 stands alone.
+    let stores = answer / 256;
+    match answer % 256 {
+        19 => Planned::TooShort { need: stores },
+        0 => Planned::Stores { count: stores },
+        _ => Planned::Refused(Refusal::new(answer).expect("it is not 0")),
+    }
+}
+
+/// Carries out the first `k` stores of the list on the image; or 21, and no byte changes.
+pub fn carry_out(image: &mut [u8], stores: &[u8], k: u64) -> Result<(), Refusal> {
+    Refusal::check(raw::carry_out(image, stores, k))
+}
