@@ -1,5 +1,5 @@
 -- `benchmark::question::asked_by` meets its contract. A case for each number, and one for all others.
-use mathlib.Core.Path.{_≡_, refl, sym}
+use mathlib.Core.Path.{_≡_, refl}
 use mathlib.Core.Logic.{_≢_}
 use Prim.Native.Nat.{ℕ, zero, suc}
 use Rattle.benchmark.specs.Answer.{questionOf}
