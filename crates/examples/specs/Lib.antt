@@ -1,2 +1,3 @@
 -- The worked examples of the rules, computed over the definitions, as one statement. Nothing to call.
 pub mod Examples
+pub mod Streams

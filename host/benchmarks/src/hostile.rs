@@ -2,9 +2,9 @@
 use crate::builder::Builder;
 use crate::objects::Objects;
 use crate::timing::time_long;
+use checks::generator::collide::hashed_to_0;
 use checks::generator::frame::set;
 use reading::layout::{header, kind};
-use reading::lookup3::hashlittle2;
 use wrapper::raw;
 
 pub fn hostile() {
@@ -89,28 +89,6 @@ fn one_hash(length: u64) -> Vec<u8> {
         n += 1;
     }
     it.image
-}
-
-/// A payload of 12 bytes with the hash 0, another for each number: the last steps of lookup3
-/// backwards.
-fn hashed_to_0(n: u32) -> Vec<u8> {
-    fn back(x: &mut u32, y: u32, turn: u32) {
-        *x = x.wrapping_add(y.rotate_left(turn)) ^ y;
-    }
-    let (mut a, mut b, mut c) = (n, 0, 0);
-    back(&mut c, b, 24);
-    back(&mut b, a, 14);
-    back(&mut a, c, 4);
-    back(&mut c, b, 16);
-    back(&mut b, a, 25);
-    back(&mut a, c, 11);
-    back(&mut c, b, 14);
-    let start = 0xdead_beef_u32.wrapping_add(12);
-    let payload = [a, b, c]
-        .map(|word| word.wrapping_sub(start).to_le_bytes())
-        .concat();
-    assert_eq!(hashlittle2(&payload), 0);
-    payload
 }
 
 /// Half of the file is an array, the other half DATA that count all of its items. No entry is

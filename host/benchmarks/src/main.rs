@@ -1,6 +1,6 @@
 //! Times the archive against plain Rust: `cargo run --offline --release -p benchmarks`.
-//! Sections are `hashes`, `frame`, `open`, `append`, `lookups`, `listing` and `hostile`; with
-//! their names only those are run.
+//! Sections are `hashes`, `frame`, `open`, `append`, `lookups`, `listing`, `merged` and `hostile`;
+//! with their names only those are run.
 //!
 //! A ratio of 1.0 or more means that the archive is at least as fast as plain Rust.
 mod append;
@@ -11,6 +11,7 @@ mod hostile;
 mod listing;
 mod lookups;
 mod many;
+mod merged;
 mod objects;
 mod open;
 mod plain;
@@ -26,13 +27,14 @@ use wrapper::raw;
 
 fn main() {
     let asked: Vec<String> = std::env::args().skip(1).collect();
-    let sections: [(&str, fn()); 7] = [
+    let sections: [(&str, fn()); 8] = [
         ("hashes", hashes),
         ("frame", frame::frame),
         ("open", open::open),
         ("append", append::append),
         ("lookups", lookups::lookups),
         ("listing", listing::listing),
+        ("merged", merged::merged),
         ("hostile", hostile::hostile),
     ];
     for (name, section) in sections {

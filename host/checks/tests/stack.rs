@@ -1,7 +1,7 @@
 //! Every call that reads an image does with the stack that `docs/HOST.md` names. With too little of it
 //! the whole test ends.
-use checks::generator::worked::{first, second};
-use wrapper::{Planned, Request};
+use checks::generator::worked::{first, second, two_appends};
+use wrapper::{Offset, Planned, Request, Which};
 
 /// "1.3 MiB of stack"
 const STACK: usize = 13 * (1 << 20) / 10;
@@ -51,4 +51,24 @@ fn a_small_stack() {
         let calls = thread.spawn(move || all_calls(keyed)).expect("a thread");
         calls.join().expect("every call ends well");
     }
+}
+
+/// Each of the calls on two images, which are judged one after the other.
+fn calls_on_two() {
+    let (first, second) = (two_appends(0), two_appends(1));
+    let step = wrapper::merged(&first, &second, 1, 0).expect("both open");
+    let step = step.expect("an entry");
+    assert_eq!((step.file, step.entry), (Which::Second, Offset(584)));
+    let payload = wrapper::merged_item(&first, &second, 1, 0, 1);
+    assert_eq!(payload, Some((Which::Second, &b"PRIORITY=2"[..])));
+    let mut page = [0; 200];
+    let page = wrapper::page_merged(&first, &second, 0, 0, &mut page).expect("both open");
+    assert_eq!((page.count, page.next), (2, 0));
+}
+
+#[test]
+fn a_small_stack_for_two_images() {
+    let thread = std::thread::Builder::new().stack_size(STACK);
+    let calls = thread.spawn(calls_on_two).expect("a thread");
+    calls.join().expect("every call ends well");
 }

@@ -2,7 +2,7 @@
 use crate::fault::Fault;
 use crate::ids::{self, Id};
 use crate::text::shown;
-use crate::words::{wrong, Words};
+use crate::words::{wrong, Files, Words};
 use crate::{append, new, times};
 use std::ffi::{OsStr, OsString};
 use std::os::unix::ffi::{OsStrExt, OsStringExt};
@@ -10,10 +10,10 @@ use std::path::PathBuf;
 
 pub enum Command {
     Help,
-    List { file: PathBuf },
-    Show { file: PathBuf, seqnum: u64 },
-    Find { file: PathBuf, by: By },
-    Values { file: PathBuf, name: Vec<u8> },
+    List { files: Files },
+    Show { files: Files, seqnum: u64 },
+    Find { files: Files, by: By },
+    Values { files: Files, name: Vec<u8> },
     Check { file: PathBuf },
     New { file: PathBuf, wish: new::Wish },
     Append { file: PathBuf, wish: append::Wish },
@@ -37,21 +37,22 @@ pub fn command(words: &[OsString]) -> Result<Command, Fault> {
     }
     match &*name {
         "list" => {
-            let [file] = Words::new(rest, &[])?.plain("list FILE")?;
-            Ok(Command::List { file: file.into() })
+            let (files, []) = Words::new(rest, &[])?.files("list FILE [FILE2]")?;
+            Ok(Command::List { files })
         }
         "show" => {
-            let [file, seqnum] = Words::new(rest, &[])?.plain("show FILE SEQNUM")?;
+            let usage = "show FILE [FILE2] SEQNUM";
+            let (files, [seqnum]) = Words::new(rest, &[])?.files(usage)?;
             Ok(Command::Show {
-                file: file.into(),
+                files,
                 seqnum: number(&seqnum).map_err(|why| wrong("SEQNUM", &seqnum, &why))?,
             })
         }
         "find" => find(Words::new(rest, &["--seqnum", "--time", "--field"])?),
         "values" => {
-            let [file, name] = Words::new(rest, &[])?.plain("values FILE NAME")?;
+            let (files, [name]) = Words::new(rest, &[])?.files("values FILE [FILE2] NAME")?;
             Ok(Command::Values {
-                file: file.into(),
+                files,
                 name: name.into_vec(),
             })
         }
@@ -74,13 +75,10 @@ fn find(words: Words) -> Result<Command, Fault> {
         words.option("--time", time)?.map(By::Realtime),
         words.option("--field", payload)?.map(By::Payload),
     ];
-    let usage = "find FILE and one of --seqnum N, --time T and --field NAME=VALUE";
-    let [file] = words.plain(usage)?;
+    let usage = "find FILE [FILE2] and one of --seqnum N, --time T and --field NAME=VALUE";
+    let (files, []) = words.files(usage)?;
     match <[By; 1]>::try_from(Vec::from_iter(by.into_iter().flatten())) {
-        Ok([by]) => Ok(Command::Find {
-            file: file.into(),
-            by,
-        }),
+        Ok([by]) => Ok(Command::Find { files, by }),
         Err(_) => Err(Fault::usage(format!("the command is {usage}"))),
     }
 }

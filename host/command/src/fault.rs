@@ -2,7 +2,7 @@
 use crate::text::shown;
 use std::io::{Error, ErrorKind};
 use std::os::unix::ffi::OsStrExt;
-use std::path::Path;
+use std::path::{Path, PathBuf};
 use wrapper::Refusal;
 
 pub struct Fault {
@@ -25,6 +25,15 @@ impl Fault {
         let name = shown(file.as_os_str().as_bytes());
         Fault {
             words: format!("{name}: {}", words.as_ref()),
+            status: 1,
+        }
+    }
+
+    /// About two files.
+    pub fn of_both(files: &[PathBuf; 2], words: impl AsRef<str>) -> Fault {
+        let [first, second] = files.each_ref().map(|it| shown(it.as_os_str().as_bytes()));
+        Fault {
+            words: format!("{first} and {second}: {}", words.as_ref()),
             status: 1,
         }
     }

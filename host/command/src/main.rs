@@ -10,6 +10,7 @@ mod files;
 mod ids;
 mod new;
 mod read;
+mod stream;
 mod system;
 mod table;
 mod text;
@@ -20,6 +21,7 @@ use arguments::Command;
 use fault::Fault;
 use std::io::{stdout, BufWriter, Write};
 use std::process::ExitCode;
+use words::Files;
 
 const HELP: &str = "\
 journal: reads and writes systemd journal files of at most 8 MiB
@@ -38,6 +40,8 @@ journal: reads and writes systemd journal files of at most 8 MiB
       [--boot ID] NAME=VALUE ..
                                  one entry more, on the disk when this ends
 
+list, show, find and values take a second file after FILE and read both as one
+stream; what they print then says whether it is from file 1 or from file 2.
 A wall time T is local, 'YYYY-MM-DD HH:MM:SS', if you like with a fraction and
 a zone ' +HHMM' as list prints it, or a number of microseconds since 1970. A
 monotonic T is in microseconds. An ID has 32 hexadecimal digits.
@@ -74,10 +78,22 @@ fn carry_out(command: Command) -> Result<(), Fault> {
     let mut out = BufWriter::new(stdout().lock());
     match command {
         Command::Help => out.write_all(HELP.as_bytes()).map_err(Fault::answer)?,
-        Command::List { file } => read::list(&file, &mut out)?,
-        Command::Show { file, seqnum } => read::show(&file, seqnum, &mut out)?,
-        Command::Find { file, by } => read::find(&file, &by, &mut out)?,
-        Command::Values { file, name } => read::values(&file, &name, &mut out)?,
+        Command::List { files } => match files {
+            Files::One(file) => read::list(&file, &mut out)?,
+            Files::Two(files) => stream::list(files, &mut out)?,
+        },
+        Command::Show { files, seqnum } => match files {
+            Files::One(file) => read::show(&file, seqnum, &mut out)?,
+            Files::Two(files) => stream::show(files, seqnum, &mut out)?,
+        },
+        Command::Find { files, by } => match files {
+            Files::One(file) => read::find(&file, &by, &mut out)?,
+            Files::Two(files) => stream::find(files, &by, &mut out)?,
+        },
+        Command::Values { files, name } => match files {
+            Files::One(file) => read::values(&file, &name, &mut out)?,
+            Files::Two(files) => stream::values(files, &name, &mut out)?,
+        },
         Command::Check { file } => read::check(&file, &mut out)?,
         Command::New { file, wish } => new::new(&file, &wish, &mut out)?,
         Command::Append { file, wish } => append::append(&file, &wish, &mut out)?,

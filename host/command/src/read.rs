@@ -1,4 +1,4 @@
-//! The commands that only read: `list`, `show`, `find`, `values` and `check`.
+//! The commands that only read, of one file: `list`, `show`, `find`, `values` and `check`.
 use crate::arguments::By;
 use crate::fault::Fault;
 use crate::text::{counted, shown};
@@ -17,41 +17,48 @@ pub fn show(file: &Path, seqnum: u64, out: &mut impl Write) -> Result<(), Fault>
     let image = files::read(file)?;
     match found(file, &image, wrapper::by_seqnum(&image, seqnum))? {
         Some(entry) if entry.seqnum == seqnum => table::full(&entry, out).map_err(Fault::answer),
-        Some(next) => Err(Fault::of(
-            file,
-            format!("no entry {seqnum}; the next one is {}", next.seqnum),
-        )),
-        None => Err(Fault::of(
-            file,
-            format!("no entry {seqnum}, and none with a higher number"),
-        )),
+        next => {
+            let next = next.map(|entry| entry.seqnum);
+            Err(Fault::of(file, no_entry(seqnum, next)))
+        }
+    }
+}
+
+/// There is none of this number; the next one has another, if there is a next one.
+pub fn no_entry(seqnum: u64, next: Option<u64>) -> String {
+    match next {
+        Some(next) => format!("no entry {seqnum}; the next one is {next}"),
+        None => format!("no entry {seqnum}, and none with a higher number"),
     }
 }
 
 pub fn find(file: &Path, by: &By, out: &mut impl Write) -> Result<(), Fault> {
     let image = files::read(file)?;
-    let (entries, wanted) = match by {
-        By::Seqnum(seqnum) => (
-            Vec::from_iter(found(file, &image, wrapper::by_seqnum(&image, *seqnum))?),
-            format!("with a sequence number of {seqnum} or above"),
-        ),
-        By::Realtime(realtime) => (
-            Vec::from_iter(found(
-                file,
-                &image,
-                wrapper::by_realtime(&image, *realtime),
-            )?),
-            format!("at {} ({realtime}) or later", times::shown(*realtime)),
-        ),
-        By::Payload(payload) => (
-            wrapper::all_matches(&image, payload)
-                .map_err(|refusal| Fault::refused(file, refusal))?,
-            format!("with {}", shown(payload)),
-        ),
+    let entries = match by {
+        By::Seqnum(seqnum) => {
+            Vec::from_iter(found(file, &image, wrapper::by_seqnum(&image, *seqnum))?)
+        }
+        By::Realtime(realtime) => {
+            let answer = wrapper::by_realtime(&image, *realtime);
+            Vec::from_iter(found(file, &image, answer)?)
+        }
+        By::Payload(payload) => wrapper::all_matches(&image, payload)
+            .map_err(|refusal| Fault::refused(file, refusal))?,
     };
     match entries[..] {
-        [] => Err(Fault::of(file, format!("no entry {wanted}"))),
+        [] => Err(Fault::of(file, format!("no entry {}", wanted(by)))),
         _ => table::lines(&entries, out).map_err(Fault::answer),
+    }
+}
+
+/// What is looked for, in words.
+pub fn wanted(by: &By) -> String {
+    match by {
+        By::Seqnum(seqnum) => format!("with a sequence number of {seqnum} or above"),
+        By::Realtime(realtime) => {
+            format!("at {} ({realtime}) or later", times::shown(*realtime))
+        }
+        By::Payload(payload) => format!("with {}", shown(payload)),
     }
 }
 

@@ -2,7 +2,7 @@
 use crate::text::shown;
 use crate::{ids, times};
 use std::io::{Result, Write};
-use wrapper::Entry;
+use wrapper::{Entry, Which};
 
 /// The part of a payload after the first `=`.
 pub fn value(payload: &[u8]) -> &[u8] {
@@ -15,8 +15,22 @@ pub fn value(payload: &[u8]) -> &[u8] {
 
 /// A heading, and a line for each entry.
 pub fn lines(entries: &[Entry], out: &mut impl Write) -> Result<()> {
+    let rows = entries.iter().map(|entry| (String::new(), entry));
+    rows_of("", &Vec::from_iter(rows), out)
+}
+
+/// The same of entries of two files: a column in front says which file, 1 or 2.
+pub fn lines_of_two(entries: &[(Which, Entry)], out: &mut impl Write) -> Result<()> {
+    let rows = entries
+        .iter()
+        .map(|(file, entry)| (format!("{:>4}  ", file.number()), entry));
+    rows_of("file  ", &Vec::from_iter(rows), out)
+}
+
+/// Each with what stands before it.
+fn rows_of(first: &str, rows: &[(String, &Entry)], out: &mut impl Write) -> Result<()> {
     let width = |heading: &str, number: fn(&Entry) -> u64| {
-        let widest = entries.iter().map(number).max();
+        let widest = rows.iter().map(|(_, entry)| number(entry)).max();
         heading.len().max(widest.unwrap_or(0).to_string().len())
     };
     let seqnums = width("seqnum", |entry| entry.seqnum);
@@ -24,10 +38,10 @@ pub fn lines(entries: &[Entry], out: &mut impl Write) -> Result<()> {
     let (heading, local) = ("local time", 32);
     writeln!(
         out,
-        "{:>seqnums$}  {heading:<local$}  {:>realtimes$}  fields  MESSAGE",
+        "{first}{:>seqnums$}  {heading:<local$}  {:>realtimes$}  fields  MESSAGE",
         "seqnum", "realtime"
     )?;
-    for entry in entries {
+    for (first, entry) in rows {
         let message = entry
             .payloads
             .iter()
@@ -37,7 +51,7 @@ pub fn lines(entries: &[Entry], out: &mut impl Write) -> Result<()> {
             });
         writeln!(
             out,
-            "{:>seqnums$}  {:<local$}  {:>realtimes$}  {:>6}{message}",
+            "{first}{:>seqnums$}  {:<local$}  {:>realtimes$}  {:>6}{message}",
             entry.seqnum,
             times::shown(entry.realtime),
             entry.realtime,
@@ -45,6 +59,12 @@ pub fn lines(entries: &[Entry], out: &mut impl Write) -> Result<()> {
         )?;
     }
     Ok(())
+}
+
+/// An entry of one of two files in full.
+pub fn full_of_two(file: Which, entry: &Entry, out: &mut impl Write) -> Result<()> {
+    writeln!(out, "file       {}", file.number())?;
+    full(entry, out)
 }
 
 /// All that the file tells of an entry.

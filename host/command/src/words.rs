@@ -3,11 +3,18 @@ use crate::fault::Fault;
 use crate::text::shown;
 use std::ffi::{OsStr, OsString};
 use std::os::unix::ffi::OsStrExt;
+use std::path::PathBuf;
 
 /// Words after a command: options with their values, and plain ones.
 pub struct Words {
     options: Vec<(&'static str, OsString)>,
     pub plain: Vec<OsString>,
+}
+
+/// One file, or two that are read as one stream.
+pub enum Files {
+    One(PathBuf),
+    Two([PathBuf; 2]),
 }
 
 impl Words {
@@ -56,6 +63,20 @@ impl Words {
                 .map(Some)
                 .map_err(|why| wrong(name, value, &why)),
             None => Ok(None),
+        }
+    }
+
+    /// The plain words: one file or two, and then so many others.
+    pub fn files<const N: usize>(self, usage: &str) -> Result<(Files, [OsString; N]), Fault> {
+        let wrong = || Fault::usage(format!("the command is {usage}"));
+        let mut files = self.plain;
+        let others = files.split_off(files.len().saturating_sub(N));
+        let others = others.try_into().map_err(|_| wrong())?;
+        let mut files = files.into_iter().map(PathBuf::from);
+        match (files.next(), files.next(), files.next()) {
+            (Some(file), None, _) => Ok((Files::One(file), others)),
+            (Some(first), Some(second), None) => Ok((Files::Two([first, second]), others)),
+            _ => Err(wrong()),
         }
     }
 

@@ -10,6 +10,8 @@ pub mod layout;
 pub mod listing;
 pub mod lookup;
 pub mod lookup3;
+pub mod merged;
+pub mod merged_answers;
 pub mod new_file;
 pub mod pages;
 pub mod plan;

@@ -7,14 +7,19 @@
 mod call;
 pub mod groups;
 mod lookups;
+mod merged;
 mod pages;
 pub mod raw;
+mod records;
 mod refusal;
 mod rows;
 mod stores;
 
 pub use lookups::{
     by_payload, by_realtime, by_seqnum, entry, item, open, stamps, value, Offset, Stamps,
+};
+pub use merged::{
+    all_merged, merged, merged_item, page_merged, Merged, MergedPage, Refused, Which,
 };
 pub use pages::{
     all_entries, all_matches, all_values, page_entries, page_matches, page_values, Entry, Page,

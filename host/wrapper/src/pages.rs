@@ -5,6 +5,7 @@
 //! the place and the length of its payload. Of a value: its place and length.
 use crate::lookups::Offset;
 use crate::raw;
+use crate::records::Records;
 use crate::refusal::Refusal;
 
 /// What is in a page: the number of records at its front, and the length in bytes of the first one
@@ -61,65 +62,27 @@ fn filled(page: raw::Page) -> Result<Page, Refusal> {
 /// All committed entries in order.
 pub fn all_entries(image: &[u8]) -> Result<Vec<Entry<'_>>, Refusal> {
     let (count, mut records) = all(image, |page| page_entries(image, 0, page))?;
-    Ok((0..count).map(|_| records.entry()).collect())
+    Ok((0..count).map(|_| records.entry(image)).collect())
 }
 
 /// All committed entries that hold a payload.
 pub fn all_matches<'a>(image: &'a [u8], payload: &[u8]) -> Result<Vec<Entry<'a>>, Refusal> {
     let (count, mut records) = all(image, |page| page_matches(image, payload, 0, page))?;
-    Ok((0..count).map(|_| records.entry()).collect())
+    Ok((0..count).map(|_| records.entry(image)).collect())
 }
 
 /// All payloads of a field name, by falling DATA offset: the newest first.
 pub fn all_values<'a>(image: &'a [u8], name: &[u8]) -> Result<Vec<&'a [u8]>, Refusal> {
     let (count, mut records) = all(image, |page| page_values(image, name, 0, page))?;
-    Ok((0..count).map(|_| records.payload()).collect())
+    Ok((0..count).map(|_| records.payload(image)).collect())
 }
 
 /// The number of all records there are, and the records: a page as long as the image holds them.
 fn all(
     image: &[u8],
     call: impl FnOnce(&mut [u8]) -> Result<Page, Refusal>,
-) -> Result<(u64, Records<'_>), Refusal> {
+) -> Result<(u64, Records), Refusal> {
     let mut page = vec![0; image.len()];
     let Page { count, .. } = call(&mut page)?;
-    Ok((count, Records { image, page, at: 0 }))
-}
-
-/// The records of a page, from one on.
-struct Records<'a> {
-    image: &'a [u8],
-    page: Vec<u8>,
-    at: usize,
-}
-
-impl<'a> Records<'a> {
-    fn bytes<const N: usize>(&mut self) -> [u8; N] {
-        let bytes = &self.page[self.at..self.at + N];
-        self.at += N;
-        bytes.try_into().expect("N bytes")
-    }
-
-    fn word(&mut self) -> u64 {
-        u64::from_le_bytes(self.bytes())
-    }
-
-    fn payload(&mut self) -> &'a [u8] {
-        let (at, len) = (self.word() as usize, self.word() as usize);
-        &self.image[at..at + len]
-    }
-
-    fn entry(&mut self) -> Entry<'a> {
-        Entry {
-            offset: Offset(self.word()),
-            seqnum: self.word(),
-            realtime: self.word(),
-            monotonic: self.word(),
-            boot_id: self.bytes(),
-            payloads: {
-                let items = self.word();
-                (0..items).map(|_| self.payload()).collect()
-            },
-        }
-    }
+    Ok((count, Records::new(page)))
 }

@@ -4,4 +4,5 @@ mod arrays;
 mod bytes;
 pub mod frame;
 pub mod lookup;
+pub mod merged;
 pub mod open;

@@ -3,6 +3,7 @@
 pub mod cuts;
 pub mod lent;
 pub mod lookups;
+pub mod merged;
 pub mod orders;
 pub mod plan;
 pub mod trial;

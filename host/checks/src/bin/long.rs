@@ -1,11 +1,13 @@
 //! The archive against the independent reading, as often as asked:
 //! `cargo run --offline --release -p checks -- 1000000` opens so many images of every kind,
-//! `.. -- plan 1000000` works out so many appends, and `.. -- cuts 1000` cuts so many appends
-//! everywhere and asks every lookup each time. A second number is the first seed. It ends with status 1 at
-//! the first difference, and leaves the image in a file.
-use checks::against::cuts;
+//! `.. -- plan 1000000` works out so many appends, `.. -- cuts 1000` cuts so many appends everywhere
+//! and asks every lookup each time, and `.. -- merged 10000` shows so many pairs of files as one
+//! stream. A second number is the first seed. It ends with status 1 at the first difference, and leaves
+//! the image in a file, or the two images one after the other.
 use checks::against::plan::{number, Append};
-use checks::generator::{any::any, appends};
+use checks::against::{cuts, merged};
+use checks::generator::dice::{between, once_in};
+use checks::generator::{any::any, appends, pairs::pair};
 use checks::random::Random;
 use reading::refusal::refusal;
 use std::time::Instant;
@@ -20,6 +22,7 @@ fn main() {
         match arguments.first().map(String::as_str) {
             Some("plan") => ("appends", 50_000, plan),
             Some("cuts") => ("appends at every cut", 100, cut),
+            Some("merged") => ("pairs of files", 10_000, stream),
             _ => ("images", 50_000, open),
         };
     if what != "images" {
@@ -83,4 +86,17 @@ fn cut(random: &mut Random) -> Compared {
     cuts::cuts(&case.image, case.asked.request(), 1, tried)
         .map(|taken| taken.err().unwrap_or(0))
         .map_err(|difference| (format!("{difference}, of {:?}", case.asked), case.image))
+}
+
+/// From 0 and 0 and from some other pairs of places; now and then of two files of any kind.
+fn stream(random: &mut Random) -> Compared {
+    let images = match once_in(random, 8) {
+        true => [any(random), any(random)],
+        false => pair(random),
+    };
+    let mut from = vec![[0, 0]];
+    from.extend((0..8).map(|_| [between(random, 0, 9), between(random, 0, 9)]));
+    let length = between(random, 0, 1_200) as usize;
+    merged::compare([&images[0], &images[1]], &from, length)
+        .map_err(|difference| (difference, images.concat()))
 }

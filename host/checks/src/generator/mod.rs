@@ -1,6 +1,8 @@
 //! Good images and mutated ones, by a writer of its own, and appends to them.
 pub mod any;
 pub mod appends;
+pub mod clock;
+pub mod collide;
 pub mod dice;
 pub mod draft;
 mod facts;
@@ -9,7 +11,9 @@ pub mod full;
 pub mod good;
 pub mod grown;
 mod lists;
+pub mod logged;
 pub mod mutation;
+pub mod pairs;
 mod parts;
 pub mod questions;
 pub mod render;

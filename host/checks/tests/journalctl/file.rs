@@ -39,6 +39,12 @@ impl File {
         }
     }
 
+    /// What it prints of this file and another as one stream.
+    pub fn prints_with(&self, other: &File, arguments: &[&str]) -> Vec<u8> {
+        let file = format!("--file={}", other.0.display());
+        self.prints(&[&[&file[..]], arguments].concat())
+    }
+
     /// What it prints. It ends well and has nothing to complain of.
     pub fn prints(&self, arguments: &[&str]) -> Vec<u8> {
         let output = self.journalctl(arguments);

@@ -14,4 +14,5 @@ mod file;
 mod lookups;
 mod payloads;
 mod stamps;
+mod streams;
 mod written;

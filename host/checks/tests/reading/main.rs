@@ -6,6 +6,8 @@ mod cuts;
 mod examples;
 mod freedoms;
 mod index;
+mod merged;
+mod merged_answers;
 mod pages;
 mod refusals;
 mod stores;

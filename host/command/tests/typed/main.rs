@@ -12,4 +12,8 @@ mod reading;
 mod refused;
 mod run;
 mod times;
+mod two;
+mod two_files;
+mod two_good_files;
+mod two_refused;
 mod usage;

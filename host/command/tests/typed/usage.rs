@@ -27,22 +27,46 @@ fn wrong_words() {
     let wrong: &[(&[&str], &str)] = &[
         (&[], "a command is missing"),
         (&["remove", file], "no command remove"),
-        (&["list"], "the command is list FILE"),
-        (&["list", file, file], "the command is list FILE"),
+        (&["list"], "the command is list FILE [FILE2]"),
+        (
+            &["list", file, file, file],
+            "the command is list FILE [FILE2]",
+        ),
         (&["list", file, "--all"], "no option --all"),
         (&["list", "-"], "no option -"),
-        (&["show", file], "the command is show FILE SEQNUM"),
+        (&["show"], "the command is show FILE [FILE2] SEQNUM"),
+        (&["show", file], "the command is show FILE [FILE2] SEQNUM"),
+        (
+            &["show", file, file, file, "1"],
+            "the command is show FILE [FILE2] SEQNUM",
+        ),
         (&["show", file, "one"], "SEQNUM one: no number"),
+        (&["show", file, file, "one"], "SEQNUM one: no number"),
         (&["show", file, ""], "SEQNUM : no number"),
         (&["show", file, "+1"], "SEQNUM +1: no number"),
         (
             &["show", file, "18446744073709551616"],
             "SEQNUM 18446744073709551616: above 2^64 - 1",
         ),
-        (&["find", file], "the command is find FILE and one of "),
+        (
+            &["find", "--seqnum", "1"],
+            "the command is find FILE [FILE2] and one of ",
+        ),
+        (
+            &["find", file],
+            "the command is find FILE [FILE2] and one of ",
+        ),
+        (
+            &["find", file, file],
+            "the command is find FILE [FILE2] and one of ",
+        ),
+        (
+            &["find", file, file, file, "--seqnum", "1"],
+            "the command is find FILE [FILE2] and one of ",
+        ),
         (
             &["find", file, "--seqnum", "1", "--time", "1"],
-            "the command is find FILE and one of ",
+            "the command is find FILE [FILE2] and one of ",
         ),
         (&["find", file, "--seqnum"], "--seqnum needs a value"),
         (
@@ -50,9 +74,18 @@ fn wrong_words() {
             "--seqnum is given twice",
         ),
         (&["find", file, "--field", "A"], "--field A: no NAME=VALUE"),
-        (&["values", file], "the command is values FILE NAME"),
-        (&["check"], "the command is check FILE"),
+        (&["values", file], "the command is values FILE [FILE2] NAME"),
+        (
+            &["values", file, file, file, "A"],
+            "the command is values FILE [FILE2] NAME",
+        ),
+        (&["check"], "the command is check FILE ("),
+        (&["check", file, file], "the command is check FILE ("),
         (&["new"], "the command is new FILE and options"),
+        (
+            &["new", other, other],
+            "the command is new FILE and options",
+        ),
         (&["new", other, "--size", "1k"], "--size 1k: no number"),
         (&["new", other, "--keyed"], "no option --keyed"),
         (

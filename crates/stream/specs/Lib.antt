@@ -1,0 +1,2 @@
+-- What the stream of two files is.
+pub mod Stream

@@ -1,0 +1,58 @@
+//! What is said of two files where one of them can't be read.
+use crate::person::{asked, folder};
+use crate::two::{both, of_two};
+use checks::corpus;
+use std::fs::File;
+use std::path::PathBuf;
+
+/// What every command says.
+fn all_say(files: &[PathBuf; 2]) -> String {
+    let words = of_two("list", files, &[]).failed(1);
+    for (name, others) in [
+        ("show", &["1"][..]),
+        ("find", &["--seqnum", "1"]),
+        ("find", &["--time", "1"]),
+        ("find", &["--field", "A=1"]),
+        ("values", &["A"]),
+    ] {
+        assert_eq!(of_two(name, files, others).failed(1), words);
+    }
+    words
+}
+
+/// The first file's refusal, else the second's, with the name of the file: 5 and 4 of real files.
+#[test]
+fn refused() {
+    let [good, five, four] = [
+        "bullseye-k1-c0-online",
+        "bookworm-k1-c0-system",
+        "trixie-k1-c1-system",
+    ]
+    .map(corpus::path);
+    for (first, second, of) in [
+        (&five, &good, &five),
+        (&good, &five, &five),
+        (&good, &four, &four),
+        (&five, &four, &five),
+        (&four, &five, &four),
+    ] {
+        let words = all_say(&[first.clone(), second.clone()]);
+        assert_eq!(words, asked("list", of).failed(1));
+    }
+    let folder = folder("two-missing");
+    let missing = folder.join("missing.journal");
+    let words = format!("{}: there is no such file or folder", missing.display());
+    assert_eq!(all_say(&[missing.clone(), good.clone()]), words);
+    assert_eq!(all_say(&[good, missing]), words);
+}
+
+/// The second file's lock is looked at too.
+#[test]
+fn locked() {
+    let files = both(&folder("two-locked"), 4);
+    let other = File::options().read(true).write(true).open(&files[1]);
+    let other = other.expect("it is there");
+    other.lock().expect("the lock is free");
+    let words = of_two("list", &files, &[]).failed_with(&files[1]);
+    assert_eq!(words, "another program appends to it");
+}
