@@ -1,5 +1,6 @@
 //! What goes wrong, in one line for a person, and the status that the program ends with.
 use crate::text::shown;
+use crate::why_file;
 use std::io::{Error, ErrorKind};
 use std::os::unix::ffi::OsStrExt;
 use std::path::{Path, PathBuf};
@@ -10,13 +11,28 @@ pub struct Fault {
     pub status: u8,
 }
 
+/// The statuses, besides 0: done.
+mod status {
+    /// Not found, or the system refuses.
+    pub const FAILED: u8 = 1;
+    pub const TYPED_WRONGLY: u8 = 2;
+    /// The file can't be read: 1 to 11.
+    pub const UNREADABLE: u8 = 3;
+    /// The file or the entry is not one to append, the new file not one to make: 12 to 17, 20.
+    pub const NOT_TAKEN: u8 = 4;
+    /// There is no room in the file: 18.
+    pub const FULL: u8 = 5;
+    /// Another program has the file's lock.
+    pub const BUSY: u8 = 6;
+}
+
 impl Fault {
     /// What was typed is not how the program is used.
     pub fn usage(words: impl Into<String>) -> Fault {
         let words = words.into();
         Fault {
             words: format!("{words} (--help tells more)"),
-            status: 2,
+            status: status::TYPED_WRONGLY,
         }
     }
 
@@ -25,7 +41,7 @@ impl Fault {
         let name = shown(file.as_os_str().as_bytes());
         Fault {
             words: format!("{name}: {}", words.as_ref()),
-            status: 1,
+            status: status::FAILED,
         }
     }
 
@@ -34,19 +50,41 @@ impl Fault {
         let [first, second] = files.each_ref().map(|it| shown(it.as_os_str().as_bytes()));
         Fault {
             words: format!("{first} and {second}: {}", words.as_ref()),
-            status: 1,
+            status: status::FAILED,
         }
     }
 
-    /// The library refuses.
+    /// The library refuses. Which condition of its rule applies is told by the file, where that helps.
     pub fn refused(file: &Path, refusal: Refusal) -> Fault {
-        Fault::of(file, refusal.to_string())
+        let why = why_file::of(file, refusal);
+        Fault::because(file, refusal, why.as_deref().unwrap_or(refusal.sentence()))
     }
 
-    /// The same, with the reason in this file.
-    pub fn explained(file: &Path, refusal: Refusal, why: &str) -> Fault {
-        let (sentence, rule) = (refusal.sentence(), refusal.rule());
-        Fault::of(file, format!("{sentence}; {why} ({rule})"))
+    /// The same, with the sentence that a person reads first.
+    pub fn because(file: &Path, refusal: Refusal, sentence: &str) -> Fault {
+        let status = match refusal.number() {
+            1..=11 => status::UNREADABLE,
+            18 => status::FULL,
+            _ => status::NOT_TAKEN,
+        };
+        let fault = Fault::of(file, format!("{sentence} ({})", refusal.rule()));
+        Fault { status, ..fault }
+    }
+
+    /// The rules take it, and this program doubts that it is meant.
+    pub fn doubtful(file: &Path, words: String) -> Fault {
+        let fault = Fault::of(file, format!("{words} (--anyway appends it)"));
+        let status = status::NOT_TAKEN;
+        Fault { status, ..fault }
+    }
+
+    /// Another program has the file's lock.
+    pub fn busy(file: &Path, words: &str) -> Fault {
+        let status = status::BUSY;
+        Fault {
+            status,
+            ..Fault::of(file, words)
+        }
     }
 
     /// The system refuses.
@@ -54,11 +92,16 @@ impl Fault {
         Fault::of(file, said(error))
     }
 
+    /// All that is said, as a line.
+    pub fn line(&self) -> String {
+        format!("journal: {}\n", self.words)
+    }
+
     /// There is no memory for a thread.
     pub fn memory(error: &Error) -> Fault {
         Fault {
             words: format!("no thread to work in: {}", said(error)),
-            status: 1,
+            status: status::FAILED,
         }
     }
 
@@ -66,7 +109,7 @@ impl Fault {
     pub fn answer(error: Error) -> Fault {
         Fault {
             words: format!("the answer can't be written: {}", said(&error)),
-            status: 1,
+            status: status::FAILED,
         }
     }
 }

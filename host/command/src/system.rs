@@ -1,6 +1,6 @@
 //! What the system offers and the standard library does not: mapped files, blocks for a file, local
-//! time, the monotonic clock and signals. The functions of the C library are declared by hand, as
-//! on Linux on x86-64, and this file has all of the program's `unsafe`.
+//! time and the monotonic clock. The functions of the C library are declared by hand, as on Linux on
+//! x86-64; this file and `signals.rs` have all of the program's `unsafe`.
 #![allow(unsafe_code)]
 
 use raw::{Local, Timespec};
@@ -51,29 +51,12 @@ mod raw {
         pub fn posix_fallocate(file: c_int, offset: i64, len: i64) -> c_int;
         pub fn localtime_r(seconds: *const i64, into: *mut Local) -> *mut Local;
         pub fn clock_gettime(clock: c_int, into: *mut Timespec) -> c_int;
-        pub fn signal(number: c_int, action: usize) -> usize;
     }
 
     pub const PROT_READ_WRITE: c_int = 1 | 2;
     pub const MAP_SHARED: c_int = 1;
     pub const MS_SYNC: c_int = 4;
     pub const CLOCK_MONOTONIC: c_int = 1;
-    pub const SIGPIPE: c_int = 13;
-    pub const SIGXFSZ: c_int = 25;
-    pub const SIG_DFL: usize = 0;
-    pub const SIG_IGN: usize = 1;
-}
-
-/// A write to a pipe that nobody reads ends the program at once and quietly, as it does others.
-pub fn end_at_a_closed_pipe() {
-    // SAFETY: the default action runs no code of this program.
-    unsafe { raw::signal(raw::SIGPIPE, raw::SIG_DFL) };
-}
-
-/// A write past the greatest length of files fails with an error, and does not end the program.
-pub fn fail_at_the_limit_of_a_file() {
-    // SAFETY: an ignored signal runs no code of this program.
-    unsafe { raw::signal(raw::SIGXFSZ, raw::SIG_IGN) };
 }
 
 /// Local time at some seconds since 1970; none where its year does not fit 32 bits.
@@ -168,5 +151,36 @@ impl Drop for Mapped {
     fn drop(&mut self) {
         // SAFETY: so many bytes are mapped from there on, and nobody has a reference to them now.
         unsafe { raw::munmap(self.at, self.len) };
+    }
+}
+
+/// Whether standard output was closed when the program was started.
+pub fn output_was_closed() -> bool {
+    closed::OUTPUT.load(std::sync::atomic::Ordering::Relaxed)
+}
+
+/// The standard library opens /dev/null in the place of a closed standard output before `main`. The
+/// C library runs what stands in `.init_array` earlier.
+mod closed {
+    use std::ffi::c_int;
+    use std::sync::atomic::{AtomicBool, Ordering};
+
+    pub static OUTPUT: AtomicBool = AtomicBool::new(false);
+
+    #[used]
+    #[link_section = ".init_array"]
+    static LOOK: extern "C" fn() = look;
+
+    extern "C" fn look() {
+        // SAFETY: the call takes numbers alone, and changes nothing.
+        let answer = unsafe { fcntl(STANDARD_OUTPUT, F_GETFD) };
+        OUTPUT.store(answer == -1, Ordering::Relaxed);
+    }
+
+    const STANDARD_OUTPUT: c_int = 1;
+    const F_GETFD: c_int = 1;
+
+    extern "C" {
+        fn fcntl(file: c_int, command: c_int, ...) -> c_int;
     }
 }

@@ -1,74 +1,55 @@
 //! Entries in columns, and one entry in full.
+use crate::columns::Column;
+use crate::source::Row;
 use crate::text::shown;
 use crate::{ids, times};
 use std::io::{Result, Write};
-use wrapper::{Entry, Which};
 
-/// The part of a payload after the first `=`.
-pub fn value(payload: &[u8]) -> &[u8] {
-    let name = payload
-        .split(|&byte| byte == b'=')
-        .next()
-        .unwrap_or(payload);
-    payload.get(name.len() + 1..).unwrap_or_default()
-}
+/// How long a local time is, of the years from 1000 to 9999.
+const LOCAL: usize = 32;
 
 /// A heading, and a line for each entry.
-pub fn lines(entries: &[Entry], out: &mut impl Write) -> Result<()> {
-    let rows = entries.iter().map(|entry| (String::new(), entry));
-    rows_of("", &Vec::from_iter(rows), out)
-}
-
-/// The same of entries of two files: a column in front says which file, 1 or 2.
-pub fn lines_of_two(entries: &[(Which, Entry)], out: &mut impl Write) -> Result<()> {
-    let rows = entries
-        .iter()
-        .map(|(file, entry)| (format!("{:>4}  ", file.number()), entry));
-    rows_of("file  ", &Vec::from_iter(rows), out)
-}
-
-/// Each with what stands before it.
-fn rows_of(first: &str, rows: &[(String, &Entry)], out: &mut impl Write) -> Result<()> {
-    let width = |heading: &str, number: fn(&Entry) -> u64| {
-        let widest = rows.iter().map(|(_, entry)| number(entry)).max();
-        heading.len().max(widest.unwrap_or(0).to_string().len())
+pub fn lines(columns: &[Column], rows: &[Row], heading: bool, out: &mut impl Write) -> Result<()> {
+    let cells = |row: &Row| Vec::from_iter(columns.iter().map(|column| column.cell(row)));
+    let mut all: Vec<Vec<Option<String>>> = rows.iter().map(cells).collect();
+    let headings = columns.iter().map(|column| Some(column.heading()));
+    all.insert(0, headings.collect());
+    let width = |place: usize| {
+        let cells = all.iter().filter_map(|cells| cells[place].as_ref());
+        let widest = cells.map(|cell| cell.chars().count()).max().unwrap_or(0);
+        match columns[place] {
+            Column::Local => widest.max(LOCAL),
+            _ => widest,
+        }
     };
-    let seqnums = width("seqnum", |entry| entry.seqnum);
-    let realtimes = width("realtime", |entry| entry.realtime);
-    let (heading, local) = ("local time", 32);
-    writeln!(
-        out,
-        "{first}{:>seqnums$}  {heading:<local$}  {:>realtimes$}  fields  MESSAGE",
-        "seqnum", "realtime"
-    )?;
-    for (first, entry) in rows {
-        let message = entry
-            .payloads
-            .iter()
-            .find(|payload| payload.starts_with(b"MESSAGE="))
-            .map_or(String::new(), |payload| {
-                format!("  {}", shown(value(payload)))
-            });
-        writeln!(
-            out,
-            "{first}{:>seqnums$}  {:<local$}  {:>realtimes$}  {:>6}{message}",
-            entry.seqnum,
-            times::shown(entry.realtime),
-            entry.realtime,
-            entry.payloads.len(),
-        )?;
+    let widths: Vec<usize> = (0..columns.len()).map(width).collect();
+    for cells in all.iter().skip(usize::from(!heading)) {
+        writeln!(out, "{}", line(columns, &widths, cells))?;
     }
     Ok(())
 }
 
-/// An entry of one of two files in full.
-pub fn full_of_two(file: Which, entry: &Entry, out: &mut impl Write) -> Result<()> {
-    writeln!(out, "file       {}", file.number())?;
-    full(entry, out)
+/// One line, up to the last cell that has something.
+fn line(columns: &[Column], widths: &[usize], cells: &[Option<String>]) -> String {
+    let end = cells.iter().rposition(|cell| cell.is_some());
+    let end = end.map_or(0, |place| place + 1);
+    let set = |place: usize| {
+        let (cell, width) = (cells[place].as_deref().unwrap_or_default(), widths[place]);
+        match columns[place].at_the_right() {
+            true => format!("{cell:>width$}"),
+            false if place + 1 == end => cell.to_string(),
+            false => format!("{cell:<width$}"),
+        }
+    };
+    Vec::from_iter((0..end).map(set)).join("  ")
 }
 
 /// All that the file tells of an entry.
-pub fn full(entry: &Entry, out: &mut impl Write) -> Result<()> {
+pub fn full(row: &Row, out: &mut impl Write) -> Result<()> {
+    let entry = &row.entry;
+    if let Some(file) = row.file {
+        writeln!(out, "file       {}", file.number())?;
+    }
     writeln!(out, "seqnum     {}", entry.seqnum)?;
     writeln!(out, "local time {}", times::shown(entry.realtime))?;
     writeln!(out, "realtime   {}", entry.realtime)?;

@@ -18,6 +18,34 @@ pub fn shown(bytes: &[u8]) -> String {
     text
 }
 
+/// The bytes that are shown as this text. A backslash before anything else than a backslash or the
+/// two digits of a byte is refused: shown it would be two, so it may be meant as itself or be half
+/// of something.
+pub fn typed(text: &[u8]) -> Result<Vec<u8>, String> {
+    let (mut bytes, mut rest) = (Vec::with_capacity(text.len()), text);
+    while let [first, after @ ..] = rest {
+        let (byte, after) = match (first, after) {
+            (b'\\', [b'\\', after @ ..]) => (b'\\', after),
+            (b'\\', [b'x', high, low, after @ ..]) => (two_digits(*high, *low)?, after),
+            (b'\\', _) => return Err(BACKSLASH.to_string()),
+            (byte, after) => (*byte, after),
+        };
+        bytes.push(byte);
+        rest = after;
+    }
+    Ok(bytes)
+}
+
+const BACKSLASH: &str = "a backslash is typed as \\\\ and a byte as \\xNN, as they are printed";
+
+fn two_digits(high: u8, low: u8) -> Result<u8, String> {
+    let digit = |byte: u8| char::from(byte).to_digit(16);
+    match (digit(high), digit(low)) {
+        (Some(high), Some(low)) => Ok((16 * high + low) as u8),
+        _ => Err(BACKSLASH.to_string()),
+    }
+}
+
 fn hex(text: &mut String, bytes: &[u8]) {
     for byte in bytes {
         text.push_str(&format!("\\x{byte:02x}"));
@@ -26,7 +54,7 @@ fn hex(text: &mut String, bytes: &[u8]) {
 
 /// Whether a character is seen on paper. Beyond ASCII the standard library knows: its escaping for
 /// debugging leaves such a character alone, after another one also if it is an accent.
-fn prints(character: char) -> bool {
+pub fn prints(character: char) -> bool {
     match character {
         ' '..='~' => true,
         _ if character.is_ascii() => false,

@@ -1,12 +1,14 @@
 //! Wall times: microseconds since 1970, and local time.
-use crate::system;
+use crate::calendar::{self, DAY};
+use crate::{system, zone};
+use std::time::{SystemTime, UNIX_EPOCH};
 
 const MICROSECONDS: u64 = 1_000_000;
-const DAY: i64 = 86_400;
 
 /// Local time with its microseconds and how far it is ahead of UTC: `2023-11-14 23:13:20.000001
 /// +0100`.
 pub fn shown(realtime: u64) -> String {
+    zone::say_if_unknown();
     let (seconds, fraction) = (realtime / MICROSECONDS, realtime % MICROSECONDS);
     let Some(local) = system::local(seconds as i64) else {
         return "no local time".to_string();
@@ -28,114 +30,63 @@ pub fn shown(realtime: u64) -> String {
     )
 }
 
-/// A wall time as it is typed: a number of microseconds, or what `shown` prints, also without the
-/// fraction and without the zone.
+/// The present.
+pub fn now() -> Result<u64, String> {
+    let since = SystemTime::now().duration_since(UNIX_EPOCH);
+    let since = since.map_err(|_| "this machine's clock is before 1970")?;
+    Ok(since.as_micros() as u64)
+}
+
+/// A wall time as it is typed: a number of microseconds, `now`, or a date, a time of day, or both
+/// with a space or a T between them, and then a zone or none. What `shown` prints is such a time.
 pub fn parsed(text: &str) -> Result<u64, String> {
     if !text.is_empty() && text.bytes().all(|byte| byte.is_ascii_digit()) {
         return text.parse().map_err(|_| "a number above 2^64 - 1".into());
     }
-    let (clock, zone) = match *text.split(' ').collect::<Vec<_>>() {
-        [date, time] => ((date, time), None),
-        [date, time, zone] => ((date, time), Some(zone)),
-        _ => return Err(format!("no time: {FORM}")),
+    if text == "now" {
+        return now();
+    }
+    let form = || format!("no time: {FORM}");
+    let (date, time) = match text.split_once([' ', 'T']) {
+        _ if !text.contains(':') => (Some(text), None),
+        Some((date, time)) if !date.contains(':') => (Some(date), Some(time)),
+        _ => (None, Some(text)),
     };
-    let (seconds, fraction) = naive(clock.0, clock.1).ok_or_else(|| format!("no time: {FORM}"))?;
-    let seconds = match zone {
-        Some(zone) => seconds - east(zone).ok_or("no zone: it is like +0100")?,
-        None => from_local(seconds)?,
+    let days = match date {
+        Some(date) => Some(calendar::date(date).ok_or_else(form)?),
+        None => None,
+    };
+    // A zone follows at once, or after a space.
+    let (time, zone) = match time.and_then(|time| Some((time, time.find([' ', '+', '-', 'Z'])?))) {
+        Some((time, at)) => (Some(&time[..at]), Some(&time[at..])),
+        None => (time, None),
+    };
+    let (seconds, fraction) = match time {
+        Some(time) => calendar::time_of_day(time).ok_or_else(form)?,
+        None => (0, 0),
+    };
+    let east = zone.map(|zone| {
+        let zone = zone.strip_prefix(' ').unwrap_or(zone);
+        calendar::east(zone).ok_or("no zone: it is like +0100")
+    });
+    let east = east.transpose()?;
+    let days = days.map_or_else(|| today(east), Ok)?;
+    let seconds = match east {
+        Some(east) => days * DAY + seconds - east,
+        None => zone::from_local(days * DAY + seconds)?,
     };
     let seconds = u64::try_from(seconds).map_err(|_| "before 1970")?;
     let whole = seconds.checked_mul(MICROSECONDS).ok_or("too late")?;
     whole.checked_add(fraction).ok_or("too late".into())
 }
 
-const FORM: &str = "it is microseconds, or like 'YYYY-MM-DD HH:MM:SS'";
+const FORM: &str = "it is like 'YYYY-MM-DD HH:MM:SS', with a zone or none, a date, a time of day, \
+                    now, or microseconds";
 
-/// The instant of a local time, as seconds without a zone. Where the clock was put back, a time
-/// comes twice; where it was put forward, some never come.
-fn from_local(naive: i64) -> Result<i64, String> {
-    let east = |at: i64| system::local(at).map(|local| local.east);
-    // Zones are at most a day from UTC, and change their clocks less often than every other day.
-    let mut found: Vec<i64> = [naive - DAY, naive + DAY]
-        .into_iter()
-        .filter_map(|near| Some(naive - east(near)?))
-        .filter(|&instant| east(instant) == Some(naive - instant))
-        .collect();
-    found.dedup();
-    match found[..] {
-        [] => Err("the clock was put forward over this local time".to_string()),
-        [instant] => Ok(instant),
-        _ => Err("the clock showed this local time twice: add the zone, as list prints it".into()),
-    }
-}
-
-/// `YYYY-MM-DD` and `HH:MM:SS`, with up to six digits of a fraction after a point: seconds since
-/// 1970 as if it were UTC, and microseconds.
-fn naive(date: &str, time: &str) -> Option<(i64, u64)> {
-    let [year, month, day] = numbers(date, '-', [4..=6, 2..=2, 2..=2])?;
-    let (time, fraction) = match time.split_once('.') {
-        Some((time, digits)) => {
-            let [digits_alone] = numbers(digits, '.', [1..=6])?;
-            let zeros = 6 - digits.len() as u32;
-            (time, digits_alone as u64 * 10u64.pow(zeros))
-        }
-        None => (time, 0),
-    };
-    let [hour, minute, second] = numbers(time, ':', [2..=2, 2..=2, 2..=2])?;
-    let month_is_right = (1..=12).contains(&month);
-    let right = month_is_right
-        && (1..=days_in(year, month)).contains(&day)
-        && hour < 24
-        && minute < 60
-        && second < 60;
-    right.then(|| {
-        let earlier: i64 = (1..month).map(|month| days_in(year, month)).sum();
-        let days = days_before(year) - days_before(1970) + earlier + day - 1;
-        (days * DAY + hour * 3600 + minute * 60 + second, fraction)
-    })
-}
-
-/// `+HHMM` or `-HHMM` in seconds.
-fn east(zone: &str) -> Option<i64> {
-    let (sign, digits) = match zone.split_at_checked(1)? {
-        ("+", digits) => (1, digits),
-        ("-", digits) => (-1, digits),
-        _ => return None,
-    };
-    let [number] = numbers(digits, ':', [4..=4])?;
-    let (hours, minutes) = (number / 100, number % 100);
-    (hours < 24 && minutes < 60).then_some(sign * (hours * 3600 + minutes * 60))
-}
-
-/// Numbers of so many digits each, with one character between them.
-fn numbers<const N: usize>(
-    text: &str,
-    between: char,
-    digits: [std::ops::RangeInclusive<usize>; N],
-) -> Option<[i64; N]> {
-    let parts: Vec<&str> = text.split(between).collect();
-    let right = |(part, digits): (&&str, &std::ops::RangeInclusive<usize>)| {
-        digits.contains(&part.len()) && part.bytes().all(|byte| byte.is_ascii_digit())
-    };
-    if parts.len() != N || !parts.iter().zip(&digits).all(right) {
-        return None;
-    }
-    let all: Option<Vec<i64>> = parts.iter().map(|part| part.parse().ok()).collect();
-    all?.try_into().ok()
-}
-
-fn days_in(year: i64, month: i64) -> i64 {
-    let leap = year % 4 == 0 && (year % 100 != 0 || year % 400 == 0);
-    match month {
-        2 if leap => 29,
-        2 => 28,
-        4 | 6 | 9 | 11 => 30,
-        _ => 31,
-    }
-}
-
-/// The days of all years before one, from the year 1 on.
-fn days_before(year: i64) -> i64 {
-    let past = year - 1;
-    365 * past + past / 4 - past / 100 + past / 400
+/// The days from 1970 to the present date, so far ahead of UTC, or in local time.
+fn today(east: Option<i64>) -> Result<i64, String> {
+    let now = (now()? / MICROSECONDS) as i64;
+    let local = || system::local(now).map(|local| local.east);
+    let east = east.or_else(local).ok_or("no local time")?;
+    Ok((now + east).div_euclid(DAY))
 }

@@ -17,8 +17,13 @@ pub enum Files {
     Two([PathBuf; 2]),
 }
 
+/// Options that have no value, and those that may be given several times.
+const ALONE: [&str; 2] = ["--no-header", "--reverse"];
+const SEVERAL: [&str; 1] = ["--field"];
+
 impl Words {
-    /// Takes words apart: `--name value`, `--name=value`, and after `--` plain ones alone.
+    /// Takes words apart: `--name value`, `--name=value`, `-n value`, `-nvalue`, and after `--` plain
+    /// ones alone.
     pub fn new(words: &[OsString], names: &[&'static str]) -> Result<Words, Fault> {
         let (mut options, mut plain) = (Vec::new(), Vec::new());
         let mut words = words.iter();
@@ -32,16 +37,19 @@ impl Words {
                 plain.push(word.clone());
                 continue;
             }
-            let end = bytes.iter().position(|&byte| byte == b'=');
-            let typed = &bytes[..end.unwrap_or(bytes.len())];
+            let (typed, value) = name_and_value(bytes);
             let Some(&name) = names.iter().find(|name| name.as_bytes() == typed) else {
                 return Err(Fault::usage(format!("no option {}", shown(typed))));
             };
-            if options.iter().any(|&(other, _)| other == name) {
+            if !SEVERAL.contains(&name) && options.iter().any(|&(other, _)| other == name) {
                 return Err(Fault::usage(format!("{name} is given twice")));
             }
-            let value = match end {
-                Some(end) => OsStr::from_bytes(&bytes[end + 1..]).to_os_string(),
+            let value = match value {
+                Some(_) if ALONE.contains(&name) => {
+                    return Err(Fault::usage(format!("{name} has no value")));
+                }
+                Some(value) => OsStr::from_bytes(value).to_os_string(),
+                None if ALONE.contains(&name) => OsString::new(),
                 None => match words.next() {
                     Some(value) => value.clone(),
                     None => return Err(Fault::usage(format!("{name} needs a value"))),
@@ -66,6 +74,23 @@ impl Words {
         }
     }
 
+    /// The values of an option that may be given several times.
+    pub fn every<T>(
+        &self,
+        name: &str,
+        meaning: fn(&OsStr) -> Result<T, String>,
+    ) -> Result<Vec<T>, Fault> {
+        let of_it = self.options.iter().filter(|&&(other, _)| other == name);
+        let value =
+            |(_, value): &(_, OsString)| meaning(value).map_err(|why| wrong(name, value, &why));
+        of_it.map(value).collect()
+    }
+
+    /// Whether an option was given.
+    pub fn given(&self, name: &str) -> bool {
+        self.options.iter().any(|&(other, _)| other == name)
+    }
+
     /// The plain words: one file or two, and then so many others.
     pub fn files<const N: usize>(self, usage: &str) -> Result<(Files, [OsString; N]), Fault> {
         let wrong = || Fault::usage(format!("the command is {usage}"));
@@ -85,6 +110,17 @@ impl Words {
         self.plain
             .try_into()
             .map_err(|_| Fault::usage(format!("the command is {usage}")))
+    }
+}
+
+/// An option's name, and its value where that is in the same word.
+fn name_and_value(word: &[u8]) -> (&[u8], Option<&[u8]>) {
+    match (word, word.iter().position(|&byte| byte == b'=')) {
+        ([b'-', letter, value @ ..], _) if *letter != b'-' && !value.is_empty() => {
+            (&word[..2], Some(value))
+        }
+        (_, Some(end)) => (&word[..end], Some(&word[end + 1..])),
+        (_, None) => (word, None),
     }
 }
 

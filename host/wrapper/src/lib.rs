@@ -2,9 +2,15 @@
 //! same name without the prefix `journal_`, with slices as arguments and with answers that have
 //! types.
 //!
-//! `raw` has the same functions with the numbers that the archive answers, and makes all `unsafe`
-//! calls into it. `groups` tells where to sync in an append.
+//! Over them: `entries` and `stream` show all entries one after the other, `Fields` packs the fields of
+//! an append, `stores` is the list of its stores as long as it has to be, and `groups` tells where to
+//! sync while it is carried out.
+//!
+//! `raw` has the calls with the numbers that the archive answers, and makes all `unsafe` calls into
+//! it.
 mod call;
+mod entries;
+mod fields;
 pub mod groups;
 mod lookups;
 mod merged;
@@ -14,7 +20,11 @@ mod records;
 mod refusal;
 mod rows;
 mod stores;
+mod stream;
+mod turning;
 
+pub use entries::{entries, Entries};
+pub use fields::Fields;
 pub use lookups::{
     by_payload, by_realtime, by_seqnum, entry, item, open, stamps, value, Offset, Stamps,
 };
@@ -26,12 +36,17 @@ pub use pages::{
 };
 pub use raw::{hash_lookup3, hash_siphash24, Request};
 pub use refusal::Refusal;
-pub use stores::{carry_out, new, plan, Planned};
+pub use stores::{carry_out, new, plan, stores, Planned};
+pub use stream::{stream, Stream};
 
 /// An image has at most so many bytes: 2.
 pub const LONGEST_IMAGE: u64 = 8_388_608;
 
-/// The examples of the page for those who write a host, as tests of the documentation.
+/// The examples of the pages for those who write a host, as tests of the documentation.
 #[cfg(doctest)]
 #[doc = include_str!("../../../docs/HOST.md")]
 struct HostPage;
+
+#[cfg(doctest)]
+#[doc = include_str!("../../../docs/host/appending.md")]
+struct AppendingPage;

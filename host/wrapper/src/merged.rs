@@ -106,16 +106,13 @@ pub fn all_merged<'a>(
     let mut page = vec![0; first.len() + second.len()];
     let MergedPage { count, .. } = page_merged(first, second, 0, 0, &mut page)?;
     let mut records = Records::new(page);
-    let entries = (0..count).map(|_| {
-        let file = Which::new(records.word()).expect("a record begins with its file");
-        (file, records.entry(file.of(first, second)))
-    });
+    let entries = (0..count).map(|_| records.turn_of(first, second));
     Ok(entries.collect())
 }
 
 impl Which {
     /// The file of a number; 0 is none.
-    fn new(number: u64) -> Option<Which> {
+    pub(crate) fn new(number: u64) -> Option<Which> {
         match number {
             0 => None,
             1 => Some(Which::First),

@@ -71,7 +71,8 @@ pub fn all_matches<'a>(image: &'a [u8], payload: &[u8]) -> Result<Vec<Entry<'a>>
     Ok((0..count).map(|_| records.entry(image)).collect())
 }
 
-/// All payloads of a field name, by falling DATA offset: the newest first.
+/// All payloads of a field name, by falling DATA offset: the one that first appeared last comes first,
+/// which need not be the one of the newest entry.
 pub fn all_values<'a>(image: &'a [u8], name: &[u8]) -> Result<Vec<&'a [u8]>, Refusal> {
     let (count, mut records) = all(image, |page| page_values(image, name, 0, page))?;
     Ok((0..count).map(|_| records.payload(image)).collect())

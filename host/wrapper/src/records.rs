@@ -1,7 +1,9 @@
 //! The records of a page, read one after the other.
 use crate::lookups::Offset;
+use crate::merged::Which;
 use crate::pages::Entry;
 
+#[derive(Debug)]
 pub struct Records {
     page: Vec<u8>,
     at: usize,
@@ -10,6 +12,15 @@ pub struct Records {
 impl Records {
     pub fn new(page: Vec<u8>) -> Records {
         Records { page, at: 0 }
+    }
+
+    /// The page for a call to fill, of at least so many bytes; its records are then read from the first.
+    pub fn again(&mut self, room: usize) -> &mut [u8] {
+        if self.page.len() < room {
+            self.page.resize(room, 0);
+        }
+        self.at = 0;
+        &mut self.page
     }
 
     fn bytes<const N: usize>(&mut self) -> [u8; N] {
@@ -41,5 +52,11 @@ impl Records {
                 (0..items).map(|_| self.payload(image)).collect()
             },
         }
+    }
+
+    /// An entry of one of these two images, with its file.
+    pub fn turn_of<'a>(&mut self, first: &'a [u8], second: &'a [u8]) -> (Which, Entry<'a>) {
+        let file = Which::new(self.word()).expect("a record begins with its file");
+        (file, self.entry(file.of(first, second)))
     }
 }

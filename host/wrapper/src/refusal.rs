@@ -3,7 +3,17 @@ use crate::rows::ROWS;
 use std::fmt::{Display, Formatter};
 use std::num::NonZeroU64;
 
-/// Why a call is refused: a number of the rules' tables, 1 to 21.
+/// Why a call is refused: a number of the rules' tables, 1 to 21. It is an error with words, so that `?`
+/// hands it on and a host can print it as it is.
+///
+/// ```
+/// let refusal = wrapper::open(b"no journal").expect_err("it is too short");
+/// assert_eq!(refusal.number(), 1);
+/// assert_eq!(refusal.row(), "fewer than 256 bytes");
+/// assert!(refusal.sentence().starts_with("this is no journal"));
+/// let error: Box<dyn std::error::Error> = refusal.into();
+/// assert!(error.to_string().ends_with(" (refusal 1: fewer than 256 bytes)"));
+/// ```
 #[derive(Clone, Copy, Debug, PartialEq, Eq, PartialOrd, Ord, Hash)]
 pub struct Refusal(NonZeroU64);
 

@@ -50,6 +50,50 @@ pub fn plan(image: &[u8], request: &Request, stores: &mut [u8]) -> Planned {
     }
 }
 
+/// How many stores the list of `stores` has room for at first: more than most appends need.
+const ROOM: usize = 4_096;
+
+/// The list of an append's stores, as long as they are; or 1 to 18.
+///
+/// ```
+/// use wrapper::{carry_out, entries, new, stores, Fields, Request};
+///
+/// let mut image = vec![0; 4_096];
+/// new(&mut image, &[7; 64], 1, 1, true)?;
+/// let mut fields = Fields::new();
+/// fields.add("MESSAGE", "lot 12 due")?.add("PRIORITY", "2")?;
+/// let request = Request {
+///     machine: &[7; 16],
+///     boot: &[7; 16],
+///     seqnum: 1,
+///     realtime: 1_700_000_000_000_000,
+///     monotonic: 50,
+///     fields: fields.packed(),
+/// };
+/// let list = stores(&image, &request)?;
+/// assert_eq!(list.len(), 16 * 72);
+/// carry_out(&mut image, &list, 72)?;
+/// assert_eq!(entries(&image)?.next().map(|entry| entry.payloads.len()), Some(2));
+///
+/// // The same number again is 17.
+/// let refusal = stores(&image, &request).expect_err("it would not come after the last one");
+/// assert_eq!(refusal.number(), 17);
+/// # Ok::<(), Box<dyn std::error::Error>>(())
+/// ```
+pub fn stores(image: &[u8], request: &Request) -> Result<Vec<u8>, Refusal> {
+    let mut list = vec![0; 16 * ROOM];
+    loop {
+        match plan(image, request, &mut list) {
+            Planned::Refused(refusal) => return Err(refusal),
+            Planned::TooShort { need } => list.resize(16 * need as usize, 0),
+            Planned::Stores { count } => {
+                list.truncate(16 * count as usize);
+                return Ok(list);
+            }
+        }
+    }
+}
+
 /// Carries out the first `k` stores of the list on the image; or 21, and no byte changes.
 pub fn carry_out(image: &mut [u8], stores: &[u8], k: u64) -> Result<(), Refusal> {
     Refusal::check(raw::carry_out(image, stores, k))

@@ -1,7 +1,7 @@
 //! `append`, against the independent reading byte for byte.
 use crate::expected::expected;
 use crate::person::{
-    append, asked, bytes, file, folder, made, options, program, said, typed, BOOT, MACHINE,
+    append, asked, bytes, checked, file, folder, made, options, program, said, typed, BOOT, MACHINE,
 };
 use std::collections::BTreeSet;
 use std::ffi::OsStr;
@@ -45,7 +45,7 @@ fn as_the_reading_has_it() {
         let middle = format!("), {fields}, {stores} stores, ");
         assert!(text.contains(&middle), "{text}");
     }
-    assert_eq!(asked("check", &path).done(), "opens, 6 entries\n");
+    assert_eq!(checked(&path), "opens, 6 entries\n");
     assert_eq!(
         typed("values", &path, &["MESSAGE"]).done(),
         "a=b\n\nlot 12 due\n"
@@ -112,7 +112,8 @@ fn bytes_that_do_not_print() {
     let rest: String = (127..=255).map(|byte| format!("\\x{byte:02x}")).collect();
     let shown = typed("values", &path, &["A"]).done();
     assert_eq!(shown, format!("{controls}{ascii}{rest}\n"));
-    let found = said(program().arg("find").arg(&path).arg("--field").arg(field)).done();
+    let printed = format!("A={}", shown.trim_end());
+    let found = typed("find", &path, &["--field", &printed]).done();
     assert_eq!(found.lines().count(), 2);
 
     append(
@@ -150,10 +151,7 @@ fn until_it_is_full() {
     };
     assert_eq!(refused, 18);
     assert!(taken > 10, "{taken}");
-    assert_eq!(
-        asked("check", &path).done(),
-        format!("opens, {taken} entries\n")
-    );
+    assert_eq!(checked(&path), format!("opens, {taken} entries\n"));
 }
 
 /// A file with holes has its blocks before the first store.

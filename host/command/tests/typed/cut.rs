@@ -1,7 +1,9 @@
 //! An append that is ended at each of its syncs, one whose sync fails, one on a full disk, and one to a
 //! file that another program writes at the same time.
 use crate::expected::stores;
-use crate::person::{append, asked, bytes, file, folder, made, options, program, said, Said};
+use crate::person::{
+    append, asked, bytes, checked, file, folder, made, options, program, said, Said,
+};
 use reading::carry::carry_out;
 use std::path::{Path, PathBuf};
 use std::process::Command;
@@ -27,7 +29,7 @@ pub fn preloaded<'a>(command: &'a mut Command, name: &str, number: usize) -> &'a
 }
 
 /// An append of one new and one old field as entry 3, told one thing.
-fn told(path: &Path, name: &str, number: usize) -> Said {
+pub fn told(path: &Path, name: &str, number: usize) -> Said {
     let mut command = program();
     preloaded(&mut command, name, number);
     command.arg("append").arg(path).args(options(3));
@@ -36,7 +38,7 @@ fn told(path: &Path, name: &str, number: usize) -> Said {
 
 /// A file with two entries; the same in the course of the append of a third, at each of its syncs;
 /// and after it.
-fn course(folder: &Path) -> (Vec<u8>, Vec<Vec<u8>>) {
+pub fn course(folder: &Path) -> (Vec<u8>, Vec<Vec<u8>>) {
     let path = made(folder, "two.journal", "4096");
     append(&path, 1, &["A=1"]).done();
     append(&path, 2, &["A=1"]).done();
@@ -70,8 +72,7 @@ fn ended_at_every_sync() {
         assert_eq!((ended.status, &*ended.out, &*ended.err), (None, "", ""));
         assert!(bytes(&path) == *cut, "at sync {n}");
         let (text, count) = if n < 5 { (&old, 2) } else { (&new, 3) };
-        let checked = asked("check", &path).done();
-        assert_eq!(checked, format!("opens, {count} entries\n"));
+        assert_eq!(checked(&path), format!("opens, {count} entries\n"));
         assert_eq!(asked("list", &path).done(), *text, "at sync {n}");
         match n {
             6 => drop(append(&path, 4, &["A=1"]).done()),
@@ -102,6 +103,12 @@ fn failing_at_every_sync() {
         let words = told(&path, "FAIL_AT", n).failed_with(&path);
         let start = format!("group {group} of 8 can't be synced: Input/output error");
         assert!(words.starts_with(&start), "{words}");
+        let end = match group {
+            7 => "; the append stops there; the entry may be on the disk or not",
+            8 => "; the append stops there; the entry is on the disk",
+            _ => "; the append stops there",
+        };
+        assert!(words.ends_with(end), "{words}");
         assert!(bytes(&path) == *cut, "at sync {n}");
     }
 }

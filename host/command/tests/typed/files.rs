@@ -1,5 +1,5 @@
 //! Files that are none, or not to be read, and lengths at the edges.
-use crate::person::{append, asked, bytes, file, folder, made, program, said};
+use crate::person::{append, asked, bytes, checked, file, folder, made, program, said};
 use reading::layout::MOST_BYTES;
 use std::fs::{File, Permissions};
 use std::os::unix::fs::{MetadataExt, PermissionsExt};
@@ -44,7 +44,7 @@ fn lengths() {
     assert_eq!(all_say(&zeros), other);
 
     let longest = made(&folder, "longest.journal", &MOST_BYTES.to_string());
-    assert_eq!(asked("check", &longest).done(), "opens, 0 entries\n");
+    assert_eq!(checked(&longest), "opens, 0 entries\n");
     let longer = "the file is too long: at most 8 MiB are taken here \
                   (refusal 2: more than 8,388,608 bytes)";
     let too_long = |length: u64| {
@@ -91,7 +91,8 @@ fn no_permission() {
     let refused = "no permission";
     assert_eq!(as_somebody(&["list"], &path).failed_with(&path), refused);
     allow(&path, 0o444);
-    assert_eq!(as_somebody(&["check"], &path).done(), "opens, 0 entries\n");
+    let opened = as_somebody(&["check"], &path).done();
+    assert!(opened.starts_with("opens, 0 entries\n"), "{opened}");
     let said = as_somebody(&["append", "A=1"], &path);
     assert_eq!(said.failed_with(&path), refused);
     assert_eq!(bytes(&path), before);
@@ -109,5 +110,5 @@ fn by_another_name() {
     let path = made(&folder("other-name"), "one.journal", "4096");
     let input = File::open(&path).expect("it is there");
     let answer = said(program().args(["check", "/dev/stdin"]).stdin(input));
-    assert_eq!(answer.done(), "opens, 0 entries\n");
+    assert!(answer.done().starts_with("opens, 0 entries\n"));
 }

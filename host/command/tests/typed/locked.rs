@@ -1,5 +1,5 @@
 //! Several programs at one file.
-use crate::person::{append, asked, bytes, folder, made, program, Said, MACHINE};
+use crate::person::{append, asked, bytes, checked, folder, made, program, Said, MACHINE};
 use std::fs::File;
 use std::process::Stdio;
 
@@ -20,7 +20,7 @@ fn a_lock_that_is_held() {
     other.unlock().expect("it was held");
 
     other.lock_shared().expect("the lock is free");
-    assert_eq!(asked("check", &path).done(), "opens, 0 entries\n");
+    assert_eq!(checked(&path), "opens, 0 entries\n");
     let words = append(&path, 1, &["A=1"]).failed_with(&path);
     assert_eq!(words, "another program appends to it, or reads it for long");
     assert_eq!(bytes(&path), before);
@@ -55,10 +55,7 @@ fn several_at_once() {
     }
     assert!(done > 0);
     let count = if done == 1 { "entry" } else { "entries" };
-    assert_eq!(
-        asked("check", &path).done(),
-        format!("opens, {done} {count}\n")
-    );
+    assert_eq!(checked(&path), format!("opens, {done} {count}\n"));
 }
 
 /// Somebody who reads all the time does not keep an append from its turn, nor sees a half one.

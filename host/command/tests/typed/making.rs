@@ -1,6 +1,8 @@
 //! `new`.
 use crate::cut::preloaded;
-use crate::person::{asked, bytes, file, folder, program, said, typed, Said, BOOT, MACHINE};
+use crate::person::{
+    asked, bytes, checked, file, folder, program, said, typed, Said, BOOT, MACHINE,
+};
 use reading::image::id;
 use reading::layout::{header, MOST_BYTES};
 use reading::new_file::{new_file, NewFile};
@@ -39,7 +41,7 @@ fn as_chosen_here() {
     let start = "made, 8388608 bytes, 8192 data cells, 512 field cells, keyed, file id ";
     let shown = said.strip_prefix(start).expect("what was made");
     is_new(&one, MOST_BYTES, 8_192, 512, 1);
-    assert_eq!(asked("check", &one).done(), "opens, 0 entries\n");
+    assert_eq!(checked(&one), "opens, 0 entries\n");
 
     let ids = |path: &Path| {
         let image = bytes(path);

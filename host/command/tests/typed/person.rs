@@ -46,9 +46,15 @@ impl Said {
         line.to_string()
     }
 
+    /// The same; the status is the one that goes with these words.
+    pub fn failed_so(self) -> String {
+        let status = status_of(&self.err);
+        self.failed(status)
+    }
+
     /// The same of what a file is the matter with: the words after its name.
     pub fn failed_with(self, file: &Path) -> String {
-        let line = self.failed(1);
+        let line = self.failed_so();
         let words = line.strip_prefix(&format!("{}: ", file.display()));
         words.unwrap_or_else(|| panic!("{line}")).to_string()
     }
@@ -63,6 +69,21 @@ impl Said {
         let (number, condition) = rule.split_once(": ").expect("a number, and words");
         assert!(condition.len() > 10, "{line}");
         number.parse().expect("a number")
+    }
+}
+
+/// The status that goes with what is said of a file: 3 where it is refused, 4 where an entry or a
+/// new file is, 5 where a file is full, 6 where another program has its lock, else 1.
+fn status_of(line: &str) -> i32 {
+    let rule = line.split_once(" (refusal ").map(|(_, rule)| rule);
+    let number = rule.and_then(|rule| rule.split_once(": ")?.0.parse::<u64>().ok());
+    match number {
+        Some(1..=11) => 3,
+        Some(18) => 5,
+        Some(_) => 4,
+        None if line.ends_with(" (--anyway appends it)\n") => 4,
+        None if line.contains(": another program appends to it") => 6,
+        None => 1,
     }
 }
 
@@ -85,6 +106,13 @@ pub fn typed<I: AsRef<OsStr>>(name: &str, file: &Path, words: &[I]) -> Said {
 /// The same without words.
 pub fn asked(name: &str, file: &Path) -> Said {
     typed::<&str>(name, file, &[])
+}
+
+/// The first line of what `check` says of a file that opens.
+pub fn checked(file: &Path) -> String {
+    let text = asked("check", file).done();
+    let end = text.find('\n').expect("a line");
+    text[..=end].to_string()
 }
 
 /// An empty folder for a test.

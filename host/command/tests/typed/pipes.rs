@@ -53,6 +53,34 @@ fn an_answer_that_can_not_be_written() {
     }
 }
 
+/// `list FILE >&-`: where there is no standard output at all, nothing was answered.
+#[test]
+fn an_output_that_is_closed() {
+    let path = long("closed-output");
+    let shell = |script: &str| {
+        let mut shell = Command::new("sh");
+        shell.args(["-c", script, env!("CARGO_BIN_EXE_journal")]);
+        said(shell.arg(&path))
+    };
+    for script in [
+        "exec \"$0\" list \"$1\" >&-",
+        "exec \"$0\" check \"$1\" >&-",
+        "exec \"$0\" find \"$1\" --seqnum 1 <&- >&-",
+        "exec \"$0\" --help >&-",
+    ] {
+        let words = shell(script).failed(1);
+        assert_eq!(
+            words,
+            "the answer can't be written: standard output is closed"
+        );
+    }
+    // One that leads nowhere is meant so, and the others may be closed.
+    assert_eq!(shell("exec \"$0\" list \"$1\" >/dev/null").done(), "");
+    assert_eq!(shell("exec \"$0\" list \"$1\" 1<>/dev/null").done(), "");
+    let last = shell("exec \"$0\" list \"$1\" -n 1 --no-header <&- 2>&-").done();
+    assert!(last.starts_with("  3000  "), "{last}");
+}
+
 /// The first thread's stack may be shorter than what the library needs.
 #[test]
 fn a_short_stack() {

@@ -1,5 +1,5 @@
-//! `list`, `show`, `find`, `values` and `check` of good files.
-use crate::person::{asked, file, folder, typed};
+//! `list`, `show`, `find`, `values` and the first line of `check` of good files.
+use crate::person::{asked, checked, file, folder, typed};
 use checks::corpus::{self, listing, FILES};
 use checks::generator::full::full;
 use checks::generator::good::good;
@@ -18,7 +18,7 @@ const SECOND: &str =
 #[test]
 fn worked_example() {
     let path = file(&folder("worked"), "two.journal", &two_appends(1));
-    assert_eq!(asked("check", &path).done(), "opens, 2 entries\n");
+    assert_eq!(checked(&path), "opens, 2 entries\n");
     let both = [HEADING, FIRST, SECOND].concat();
     assert_eq!(asked("list", &path).done(), both);
 
@@ -87,7 +87,7 @@ fn real_files() {
         };
         let expected = listed.iter().map(|line| columns(line, [0, 1, 3]));
         assert_eq!(rows.collect::<Vec<_>>(), expected.collect::<Vec<_>>());
-        let checked = asked("check", &corpus::path(name)).done();
+        let checked = checked(&corpus::path(name));
         let count = last.strip_prefix("entries ").expect("a number");
         assert_eq!(checked, format!("opens, {count} entries\n"));
     }
@@ -145,7 +145,7 @@ fn a_long_file() {
     let image = full(&[20_000], true, 6_400_000);
     assert!(8_300_000 < image.len() && image.len() <= 8_388_608);
     let path = file(&folder("long"), "long.journal", &image);
-    assert_eq!(asked("check", &path).done(), "opens, 20000 entries\n");
+    assert_eq!(checked(&path), "opens, 20000 entries\n");
     let listed = asked("list", &path).done();
     assert_eq!(listed.lines().count(), 20_001);
     let held = typed("find", &path, &["--field", "A=1"]).done();

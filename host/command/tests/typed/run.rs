@@ -15,7 +15,8 @@ fn from_another_folder() {
             .output();
         Said::from(output.expect("it runs"))
     };
-    assert_eq!(run(&["check", "one.journal"]).done(), "opens, 0 entries\n");
+    let checked = run(&["check", "one.journal"]).done();
+    assert!(checked.starts_with("opens, 0 entries\n"), "{checked}");
     let missing = run(&["check", "two.journal"]).failed(1);
     assert_eq!(missing, "two.journal: there is no such file or folder");
     assert!(run(&["check"])

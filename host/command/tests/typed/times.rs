@@ -105,13 +105,18 @@ fn times_that_are_none() {
     assert_eq!(wrong(BERLIN, "2023-10-29 02:30:00"), twice);
     let never = "the clock was put forward over this local time";
     assert_eq!(wrong(BERLIN, "2023-03-26 02:30:00"), never);
-    let form = "no time: it is microseconds, or like 'YYYY-MM-DD HH:MM:SS'";
+    let form = "no time: it is like 'YYYY-MM-DD HH:MM:SS', with a zone or none, a date, a time of \
+                day, now, or microseconds";
     for time in [
         "",
         "yesterday",
-        "2023-11-14",
-        "2023-11-14T22:13:20",
-        "2023-11-14 22:13",
+        "2023-11",
+        "2023-11-14T",
+        "2023-11-14 22",
+        "2023-11-14 22:13.5",
+        "2023-11-14t22:13:20",
+        "2023-11-14 22:1",
+        "24:00",
         "2023-11-14 24:00:00",
         "2023-11-14 22:60:00",
         "2023-11-14 22:13:60",
@@ -128,10 +133,12 @@ fn times_that_are_none() {
     ] {
         assert_eq!(wrong("UTC0", time), form);
     }
-    assert_eq!(
-        wrong("UTC0", "2023-11-14 22:13:20 CET"),
-        "no zone: it is like +0100"
-    );
+    for zone in [
+        " CET", "+1", "+01:0", "+010", "+01:60", "+24:00", "ZZ", "Z+01", "  Z",
+    ] {
+        let time = format!("2023-11-14 22:13:20{zone}");
+        assert_eq!(wrong("UTC0", &time), "no zone: it is like +0100", "{time}");
+    }
     assert_eq!(wrong("UTC0", "1969-12-31 23:59:59"), "before 1970");
     assert_eq!(wrong("UTC0", "999999-01-01 00:00:00"), "too late");
     assert_eq!(
@@ -156,7 +163,7 @@ fn edges() {
         // By the number, and by the text.
         let mut words = options(seqnum);
         words[3] = if seqnum % 2 == 0 { time } else { text }.to_string();
-        words.push("A=1".to_string());
+        words.extend(["--anyway", "A=1"].map(str::to_string));
         typed("append", &path, &words).done();
     }
     let listed = asked("list", &path).done();

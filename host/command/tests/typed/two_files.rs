@@ -49,7 +49,7 @@ fields     2
     let shown = of_two("show", &files, &["7"]).done();
     assert!(shown.starts_with("file       2\nseqnum     7\n"), "{shown}");
 
-    // The first file's, newest first, and then what only the second has.
+    // The first file's, by falling DATA offset, and then what only the second has.
     let values = of_two("values", &files, &["STATE"]).done();
     assert_eq!(values, "1  dead\n1  wet\n1  sown\n2  lost\n");
     let [first, second] = files;

@@ -7,15 +7,17 @@ use std::path::PathBuf;
 
 /// What every command says.
 fn all_say(files: &[PathBuf; 2]) -> String {
-    let words = of_two("list", files, &[]).failed(1);
+    let words = of_two("list", files, &[]).failed_so();
     for (name, others) in [
         ("show", &["1"][..]),
         ("find", &["--seqnum", "1"]),
         ("find", &["--time", "1"]),
         ("find", &["--field", "A=1"]),
         ("values", &["A"]),
+        ("newest", &["A"]),
+        ("show", &["last"]),
     ] {
-        assert_eq!(of_two(name, files, others).failed(1), words);
+        assert_eq!(of_two(name, files, others).failed_so(), words);
     }
     words
 }
@@ -37,7 +39,7 @@ fn refused() {
         (&four, &five, &four),
     ] {
         let words = all_say(&[first.clone(), second.clone()]);
-        assert_eq!(words, asked("list", of).failed(1));
+        assert_eq!(words, asked("list", of).failed(3));
     }
     let folder = folder("two-missing");
     let missing = folder.join("missing.journal");

@@ -1,18 +1,5 @@
-//! Help, and what is not typed as it has to be.
+//! What is not typed as it has to be.
 use crate::person::{bytes, folder, made, program, said};
-
-#[test]
-fn help() {
-    for words in [&["--help"][..], &["help"], &["-h"], &["list", "--help"]] {
-        let text = said(program().args(words)).done();
-        assert!(text.lines().count() <= 24, "{}", text.lines().count());
-        assert!(text.lines().all(|line| line.chars().count() <= 80));
-        for command in ["list", "show", "find", "values", "check", "new", "append"] {
-            let start = format!("\n  {command} FILE");
-            assert!(text.contains(&start), "{command}");
-        }
-    }
-}
 
 /// Each is one line with status 2, and no file comes or changes.
 #[test]
@@ -79,6 +66,15 @@ fn wrong_words() {
             &["values", file, file, file, "A"],
             "the command is values FILE [FILE2] NAME",
         ),
+        (&["newest", file], "the command is newest FILE [FILE2] NAME"),
+        (
+            &["newest", file, "A\\"],
+            "NAME A\\\\: a backslash is typed as ",
+        ),
+        (
+            &["values", file, "\\x4"],
+            "NAME \\\\x4: a backslash is typed as ",
+        ),
         (&["check"], "the command is check FILE ("),
         (&["check", file, file], "the command is check FILE ("),
         (&["new"], "the command is new FILE and options"),
@@ -86,7 +82,25 @@ fn wrong_words() {
             &["new", other, other],
             "the command is new FILE and options",
         ),
-        (&["new", other, "--size", "1k"], "--size 1k: no number"),
+        (
+            &["new", other, "--size", "1k"],
+            "--size 1k: no size: it is ",
+        ),
+        (&["new", other, "--size", "M"], "--size M: no size: it is "),
+        (
+            &["new", other, "--size", "8MK"],
+            "--size 8MK: no size: it is ",
+        ),
+        (
+            &["new", other, "--size", "17592186044416M"],
+            "--size 17592186044416M: above 2^64 - 1",
+        ),
+        (&["new", other, "--wait", "1"], "no option --wait"),
+        (&["new", other, "--anyway"], "no option --anyway"),
+        (
+            &["new", other, "--seqnum-id", id],
+            "--seqnum-id 0123456789abcdef0123456789abcde: no id of 32 ",
+        ),
         (&["new", other, "--keyed"], "no option --keyed"),
         (
             &["new", other, "--machine", id],
@@ -109,6 +123,15 @@ fn wrong_words() {
             &["append", file, "--monotonic", "-1", "A=1"],
             "--monotonic -1: no number",
         ),
+        (
+            &["append", file, "--wait", "soon", "A=1"],
+            "--wait soon: no number",
+        ),
+        (&["copy", file], "the command is copy FILE TO ("),
+        (
+            &["copy", file, other, other],
+            "the command is copy FILE TO (",
+        ),
     ];
     for (words, start) in wrong {
         let line = said(program().args(*words)).failed(2);
@@ -127,5 +150,5 @@ fn a_file_named_like_an_option() {
     said(program().args(new).current_dir(&folder)).done();
     let check = ["check", "--", "-one.journal"];
     let checked = said(program().args(check).current_dir(&folder)).done();
-    assert_eq!(checked, "opens, 0 entries\n");
+    assert!(checked.starts_with("opens, 0 entries\n"), "{checked}");
 }

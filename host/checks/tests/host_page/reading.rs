@@ -1,31 +1,12 @@
-//! The C example of `docs/HOST.md`: it compiles, links with the archive and prints what the wrapper
-//! answers. The Rust example there is a test of the documentation of the wrapper.
+//! The C program that reads.
+use crate::page::{blocks, built, folder};
 use checks::corpus;
-use std::path::{Path, PathBuf};
 use std::process::Command;
 
-const PAGE: &str = include_str!("../../../docs/HOST.md");
-
-/// Builds the page's C program; where it is.
-fn built() -> PathBuf {
-    let (_, rest) = PAGE.split_once("```c\n").expect("the page has a C example");
-    let (source, _) = rest.split_once("```").expect("the example ends");
-    let folder = Path::new(env!("CARGO_TARGET_TMPDIR"));
-    let (file, program) = (folder.join("example.c"), folder.join("example"));
-    std::fs::write(&file, source).expect("a file for the example");
-    let status = Command::new("cc")
-        .args(["-Wall", "-Wextra", "-Werror", "-o"])
-        .args([&program, &file])
-        .arg(Path::new(env!("CARGO_MANIFEST_DIR")).join("../../target/staticlib/libjournal.a"))
-        .status()
-        .expect("cc is there, as for cargo");
-    assert!(status.success());
-    program
-}
-
 #[test]
-fn the_c_example() {
-    let program = built();
+fn the_program_that_reads() {
+    let [_, source, _] = blocks();
+    let program = built(&folder("reading"), source, &[]);
     for (name, _) in corpus::FILES {
         let image = corpus::image(name);
         let entry = wrapper::by_seqnum(&image, 37);

@@ -1,0 +1,94 @@
+//! `check`: whether a file can be read, whether it takes appends, and how much room is left in it.
+use crate::fault::Fault;
+use crate::text::counted;
+use crate::{files, ids};
+use std::io::Write;
+use std::path::Path;
+use wrapper::{Entry, Planned, Request};
+
+pub fn check(file: &Path, out: &mut impl Write) -> Result<(), Fault> {
+    let image = files::read(file)?;
+    let entries = wrapper::all_entries(&image).map_err(|refusal| Fault::refused(file, refusal))?;
+    let count = counted(entries.len(), "entry", "entries");
+    let room = Room::of(&image);
+    let appends = match hindrance(&image, entries.last(), &room) {
+        None => format!("takes appends{}", of_another_machine(&image)),
+        Some(why) => format!("takes no append: {why}"),
+    };
+    let room = room.words(entries.len() as u64);
+    writeln!(out, "opens, {count}\n{appends}\n{room}").map_err(Fault::answer)
+}
+
+/// What keeps any entry from being appended, if something does: the library is asked for the stores
+/// of one that comes after the last, with a list that has no room for them.
+fn hindrance(image: &[u8], last: Option<&Entry>, room: &Room) -> Option<String> {
+    let request = Request {
+        machine: &ids::machine_of(image),
+        boot: &last.map_or([1; 16], |last| last.boot_id),
+        seqnum: last.map_or(0, |last| last.seqnum).saturating_add(1),
+        realtime: last.map_or(1, |last| last.realtime),
+        monotonic: last.map_or(1, |last| last.monotonic),
+        fields: b"\x02\0\0\0A=",
+    };
+    match wrapper::plan(image, &request, &mut []) {
+        Planned::Refused(refusal) if refusal.number() == 17 => {
+            Some("its last entry has the greatest sequence number: make a new file".to_string())
+        }
+        // Another entry might do with less.
+        Planned::Refused(refusal) if refusal.number() == 18 && room.left >= SMALLEST_ENTRY => None,
+        Planned::Refused(refusal) => Some(refusal.to_string()),
+        Planned::TooShort { .. } | Planned::Stores { .. } => None,
+    }
+}
+
+/// What an append here has to say as well, since 15 refuses it otherwise.
+fn of_another_machine(image: &[u8]) -> String {
+    let machine = ids::machine_of(image);
+    match ids::machine() {
+        Ok(own) if own == machine => String::new(),
+        _ => format!(" with --machine {}", ids::shown(&machine)),
+    }
+}
+
+/// An ENTRY with one item.
+const SMALLEST_ENTRY: u64 = 80;
+
+/// The arena of a file that opens, by its header.
+struct Room {
+    arena: u64,
+    left: u64,
+    /// By all that comes after the two tables.
+    used: u64,
+}
+
+impl Room {
+    fn of(image: &[u8]) -> Room {
+        let word = |at: u64| {
+            let bytes = &image[at as usize..][..8];
+            u64::from_le_bytes(bytes.try_into().expect("8 bytes"))
+        };
+        let (arena, tail) = (word(96), word(136));
+        let end = tail + word(tail + 8).next_multiple_of(8);
+        let tables = (word(104) + word(112)).max(word(120) + word(128));
+        Room {
+            arena,
+            left: 256 + arena - end,
+            used: end - tables,
+        }
+    }
+
+    fn words(&self, entries: u64) -> String {
+        let Room { arena, left, used } = self;
+        let start = format!("room: {left} of {arena} bytes left");
+        match used.div_ceil(entries.max(1)) {
+            _ if entries == 0 => start,
+            mean => {
+                let count = match left / mean {
+                    0 => "no entry".to_string(),
+                    count => format!("about {}", counted(count as usize, "entry", "entries")),
+                };
+                format!("{start}, for {count} of {mean} bytes, the present mean")
+            }
+        }
+    }
+}

@@ -1,0 +1,187 @@
+//! What `help` says: a screen of all commands, and one for each of them.
+use crate::fault::Fault;
+use crate::text::shown;
+use std::ffi::OsString;
+use std::os::unix::ffi::OsStrExt;
+
+/// The help that some words ask for, if they do: `help`, `help COMMAND`, or a command with `--help`
+/// or `-h` before any `--`.
+pub fn asked_for(words: &[OsString]) -> Option<Result<&'static str, Fault>> {
+    let options = words.iter().take_while(|word| *word != "--");
+    let mut others = words.iter();
+    let about = match words.first() {
+        Some(first) if first == "help" => others.nth(1),
+        _ if options
+            .into_iter()
+            .any(|word| word == "--help" || word == "-h") =>
+        {
+            others.next()
+        }
+        _ => return None,
+    };
+    let Some(about) = about.filter(|word| !word.as_bytes().starts_with(b"-")) else {
+        return Some(Ok(ALL));
+    };
+    let of_it = EACH.iter().find(|(name, _)| about == name);
+    let none = || Fault::usage(format!("no command {}", shown(about.as_bytes())));
+    Some(of_it.map(|&(_, text)| text).ok_or_else(none))
+}
+
+const ALL: &str = "\
+journal: reads and writes systemd journal files of at most 8 MiB
+
+  list FILE                      a line for each committed entry
+  show FILE SEQNUM               one entry with all its fields; also: last
+  find FILE --seqnum N           the first entry with this number or above
+  find FILE --time T             the first entry at this wall time or later
+  find FILE --field NAME=VALUE   the entries that hold this very field
+  newest FILE NAME               each value of a field with its newest entry
+  values FILE NAME               field values by first appearance, last first
+  check FILE                     whether it can be read and takes appends
+  new FILE                       makes a file, and never overwrites one
+  append FILE NAME=VALUE ..      one entry more, on the disk when this ends
+  copy FILE TO                   a copy without half an append in it
+  help COMMAND                   all of one command, with its options
+
+list, show, find, newest and values take a second file after FILE and read both
+as one stream; what they print then says whether it is from file 1 or file 2.
+list, find and newest have -n N, --reverse, --since T, --until T, --fields A,B,
+--no-header and -o, which is table, tsv, csv or json.
+A wall time T is like '2026-11-15 14:23:44.5 +0100', in local time where it has
+no zone; a date, a time of day, now, or microseconds since 1970.
+Bytes that do not print show as \\xNN, a backslash shows as \\\\.
+Status: 0 done; 1 not found or failed; 2 typed wrongly; 3 the file is refused;
+4 the entry or new file is refused; 5 the file is full; 6 another has its lock.
+";
+
+/// Which entries, and how they are printed: the same for `list`, `find` and `newest`.
+macro_rules! options {
+    () => {
+        "  --since T, --until T   those from this wall time on, and up to this one
+  -n N                   the last N of them
+  --reverse              in the opposite order
+  --fields A,B           these fields in columns of their own
+  -o FORM                table, tsv, csv, or json: one object a line
+  --no-header            without the line of headings
+
+A T is like '2026-11-15 14:23:44.5 +0100' or 2026-11-15T13:23:44.5Z, in local
+time where it has no zone; a date (its midnight), a time of day (of today), now,
+or a number of microseconds since 1970.
+Bytes that do not print show as \\xNN, a backslash as \\\\; a field's values, where
+an entry has several, with \\| between them. JSON is as journalctl gives it:
+numbers are strings, several values an array, and a value that is no text an
+array of its bytes.
+"
+    };
+}
+
+const EACH: [(&str, &str); 9] = [
+    (
+        "list",
+        concat!(
+            "\
+list FILE [FILE2]: a line for each committed entry, in order; of two files as
+one stream, with the number of the file
+
+",
+            options!()
+        ),
+    ),
+    (
+        "show",
+        "\
+show FILE [FILE2] SEQNUM: one entry with all its fields
+show FILE [FILE2] last: the last entry, of two files the last of their stream
+
+Of two files all entries with the number are shown, since each may have one.
+Bytes that do not print show as \\xNN, a backslash as \\\\.
+",
+    ),
+    (
+        "find",
+        concat!(
+            "\
+find FILE [FILE2] --seqnum N: the first entry with this number or above
+find FILE [FILE2] --time T: the first entry at this wall time or later
+find FILE [FILE2] --field NAME=VALUE ..: the entries that hold this very field,
+of several --field all of them. NAME=VALUE is typed as it is printed: \\xNN is a
+byte, \\\\ a backslash, and no other backslash is taken.
+
+",
+            options!()
+        ),
+    ),
+    (
+        "newest",
+        concat!(
+            "\
+newest FILE [FILE2] NAME: each value of a field once, with the newest entry that
+holds it, the newest first. Newest is by the order of the entries, of two files
+of their stream. More of that entry: newest FILE LOT --fields RESULT
+
+",
+            options!()
+        ),
+    ),
+    (
+        "values",
+        "\
+values FILE [FILE2] NAME: the values of a field, each once. They are by falling
+DATA offset: the value that first appeared last comes first. That is not the one
+of the newest entry; newest FILE NAME has that one first.
+
+Of two files: those of the first, then those that only the second has.
+A line can be given back: find FILE --field \"NAME=$line\" (read it by read -r).
+",
+    ),
+    (
+        "check",
+        "\
+check FILE: whether the file can be read, and else why not, with status 3; then
+whether it takes appends, and else why not; and how much room is left in it
+",
+    ),
+    (
+        "new",
+        "\
+new FILE: makes a file, and never overwrites one
+
+  --size 64K             its length, in bytes or with K or M; 8M if not given
+  --data-cells N, --field-cells N
+                         the cells of its hash tables
+  --unkeyed              with the hash of older files
+  --machine ID, --boot ID
+                         in place of this machine's; 32 hexadecimal digits
+  --seqnum-id ID         the id that its entries are numbered under, to go on
+                         with the numbers of a file that is full
+  --quiet                says nothing where all went well
+",
+    ),
+    (
+        "append",
+        "\
+append FILE NAME=VALUE ..: one entry more, which is on the disk when this ends.
+A field is taken as its bytes are.
+
+  --seqnum N             its number, if not the next one
+  --time T               its wall time, if not now
+  --monotonic T          its monotonic time in microseconds
+  --machine ID, --boot ID
+                         in place of this machine's; 32 hexadecimal digits
+  --anyway               takes a time that is hardly meant: 0, above what
+                         journalctl shows, or more than a day past the clock
+  --wait SECONDS         how long to wait for another program's lock
+  --quiet                says nothing where all went well
+",
+    ),
+    (
+        "copy",
+        "\
+copy FILE TO: a copy made while no append is at work, so that it takes appends
+as the file does. Never overwrites a file.
+
+  --wait SECONDS         how long to wait for another program's lock
+  --quiet                says nothing where all went well
+",
+    ),
+];

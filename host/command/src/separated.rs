@@ -1,0 +1,41 @@
+//! Entries in columns for other programs: with a tab between them, or with a comma. Cells are in
+//! the form that `shown` prints, so that no tab and no newline is in them, and a line is an entry.
+use crate::columns::Column;
+use crate::source::Row;
+use std::io::{Result, Write};
+
+pub fn tsv(columns: &[Column], rows: &[Row], heading: bool, out: &mut impl Write) -> Result<()> {
+    lines(columns, rows, heading, "\t", |cell| cell, out)
+}
+
+pub fn csv(columns: &[Column], rows: &[Row], heading: bool, out: &mut impl Write) -> Result<()> {
+    lines(columns, rows, heading, ",", quoted, out)
+}
+
+fn lines(
+    columns: &[Column],
+    rows: &[Row],
+    heading: bool,
+    between: &str,
+    set: fn(String) -> String,
+    out: &mut impl Write,
+) -> Result<()> {
+    if heading {
+        let headings = columns.iter().map(|column| set(column.heading()));
+        writeln!(out, "{}", Vec::from_iter(headings).join(between))?;
+    }
+    for row in rows {
+        let cells = columns.iter().map(|column| column.cell(row));
+        let cells = cells.map(|cell| set(cell.unwrap_or_default()));
+        writeln!(out, "{}", Vec::from_iter(cells).join(between))?;
+    }
+    Ok(())
+}
+
+/// In quotes, and a quote twice, where a reader of commas would go wrong.
+fn quoted(cell: String) -> String {
+    match cell.contains([',', '"']) {
+        true => format!("\"{}\"", cell.replace('"', "\"\"")),
+        false => cell,
+    }
+}

@@ -1,0 +1,140 @@
+//! What is read: one file, or two as one stream.
+use crate::fault::Fault;
+use crate::files;
+use crate::words::Files;
+use std::collections::HashSet;
+use std::path::PathBuf;
+use wrapper::{Entry, Offset, Refusal, Which};
+
+/// An entry; of two files, which one it is from.
+pub struct Row<'a> {
+    pub file: Option<Which>,
+    pub entry: Entry<'a>,
+}
+
+/// Files, and the images in them.
+pub enum Source {
+    One(PathBuf, Vec<u8>),
+    Two([PathBuf; 2], [Vec<u8>; 2]),
+}
+
+impl Source {
+    pub fn read(files: Files) -> Result<Source, Fault> {
+        match files {
+            Files::One(file) => {
+                let image = files::read(&file)?;
+                Ok(Source::One(file, image))
+            }
+            Files::Two(files) => {
+                let images = [files::read(&files[0])?, files::read(&files[1])?];
+                Ok(Source::Two(files, images))
+            }
+        }
+    }
+
+    pub fn is_two(&self) -> bool {
+        matches!(self, Source::Two(..))
+    }
+
+    /// All entries in order, of two files the stream.
+    pub fn entries(&self) -> Result<Vec<Row<'_>>, Fault> {
+        match self {
+            Source::One(_, image) => self.of_one(wrapper::all_entries(image)),
+            Source::Two(_, [first, second]) => {
+                let all = wrapper::all_merged(first, second)
+                    .map_err(|refused| self.refused(refused.file, refused.refusal))?;
+                let row = |(file, entry)| Row {
+                    file: Some(file),
+                    entry,
+                };
+                Ok(all.into_iter().map(row).collect())
+            }
+        }
+    }
+
+    /// The first entry with a sequence number at or above one.
+    pub fn from_seqnum(&self, seqnum: u64) -> Result<Option<Row<'_>>, Fault> {
+        match self {
+            Source::One(_, image) => self.at(wrapper::by_seqnum(image, seqnum)),
+            Source::Two(..) => self.first(|entry| entry.seqnum >= seqnum),
+        }
+    }
+
+    /// The first entry with a wall time at or above one.
+    pub fn from_time(&self, realtime: u64) -> Result<Option<Row<'_>>, Fault> {
+        match self {
+            Source::One(_, image) => self.at(wrapper::by_realtime(image, realtime)),
+            Source::Two(..) => self.first(|entry| entry.realtime >= realtime),
+        }
+    }
+
+    /// The entries that hold all of some payloads.
+    pub fn holding(&self, payloads: &[Vec<u8>]) -> Result<Vec<Row<'_>>, Fault> {
+        let mut rows = match (self, payloads) {
+            (Source::One(_, image), [payload, ..]) => {
+                self.of_one(wrapper::all_matches(image, payload))?
+            }
+            _ => self.entries()?,
+        };
+        let holds = |row: &Row, payload: &[u8]| row.entry.payloads.contains(&payload);
+        rows.retain(|row| payloads.iter().all(|payload| holds(row, payload)));
+        Ok(rows)
+    }
+
+    /// The payloads of a field by falling DATA offset; of two files the first's, and then those of
+    /// the second that the first has not.
+    pub fn values(&self, name: &[u8]) -> Result<Vec<(Option<Which>, &[u8])>, Fault> {
+        let of = |file: Which, image| {
+            wrapper::all_values(image, name).map_err(|refusal| self.refused(file, refusal))
+        };
+        match self {
+            Source::One(_, image) => {
+                let all = of(Which::First, image)?;
+                Ok(all.into_iter().map(|payload| (None, payload)).collect())
+            }
+            Source::Two(_, [first, second]) => {
+                let (first, mut second) = (of(Which::First, first)?, of(Which::Second, second)?);
+                let known: HashSet<&[u8]> = first.iter().copied().collect();
+                second.retain(|payload| !known.contains(payload));
+                let first = first.into_iter().map(|it| (Some(Which::First), it));
+                let second = second.into_iter().map(|it| (Some(Which::Second), it));
+                Ok(first.chain(second).collect())
+            }
+        }
+    }
+
+    /// What is the matter with what was read.
+    pub fn fault(&self, words: impl AsRef<str>) -> Fault {
+        match self {
+            Source::One(file, _) => Fault::of(file, words),
+            Source::Two(files, _) => Fault::of_both(files, words),
+        }
+    }
+
+    /// The library refuses a file.
+    fn refused(&self, file: Which, refusal: Refusal) -> Fault {
+        match self {
+            Source::One(file, _) => Fault::refused(file, refusal),
+            Source::Two([first, second], _) => Fault::refused(file.of(first, second), refusal),
+        }
+    }
+
+    fn of_one<'a>(&self, all: Result<Vec<Entry<'a>>, Refusal>) -> Result<Vec<Row<'a>>, Fault> {
+        let all = all.map_err(|refusal| self.refused(Which::First, refusal))?;
+        let row = |entry| Row { file: None, entry };
+        Ok(all.into_iter().map(row).collect())
+    }
+
+    /// The entry that a lookup in one file answers by its offset.
+    fn at(&self, answer: Result<Option<Offset>, Refusal>) -> Result<Option<Row<'_>>, Fault> {
+        match answer.map_err(|refusal| self.refused(Which::First, refusal))? {
+            Some(offset) => self.first(|entry| entry.offset == offset),
+            None => Ok(None),
+        }
+    }
+
+    fn first(&self, is_it: impl Fn(&Entry) -> bool) -> Result<Option<Row<'_>>, Fault> {
+        let mut rows = self.entries()?.into_iter();
+        Ok(rows.find(|row| is_it(&row.entry)))
+    }
+}

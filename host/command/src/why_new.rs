@@ -1,0 +1,40 @@
+//! Why a new file is refused, 20: the size or the cells.
+use crate::text::counted;
+use wrapper::LONGEST_IMAGE;
+
+/// The header, and the two tables without their cells; a cell has 16 bytes.
+const WITHOUT_CELLS: u64 = 256 + 2 * 16;
+const MOST_DATA_CELLS: u64 = 65_536;
+const MOST_FIELD_CELLS: u64 = 1_024;
+
+/// A sentence for a person; none where nothing is the matter.
+pub fn of(size: u64, data_cells: u64, field_cells: u64) -> Option<String> {
+    let cells = |option: &str, count: u64, most: u64| {
+        let wrong = !(1..=most).contains(&count);
+        wrong.then(|| format!("{option} {count}: a file has 1 to {most} of them"))
+    };
+    if size > LONGEST_IMAGE {
+        return Some(format!(
+            "--size {size}: a file has at most 8M, {LONGEST_IMAGE} bytes"
+        ));
+    }
+    if size % 8 != 0 {
+        return Some(format!("--size {size}: it is no multiple of 8"));
+    }
+    cells("--data-cells", data_cells, MOST_DATA_CELLS)
+        .or_else(|| cells("--field-cells", field_cells, MOST_FIELD_CELLS))
+        .or_else(|| {
+            let need = WITHOUT_CELLS + 16 * (data_cells + field_cells);
+            let [data, field] =
+                [(data_cells, "data"), (field_cells, "field")].map(|(count, kind)| {
+                    counted(
+                        count as usize,
+                        &format!("{kind} cell"),
+                        &format!("{kind} cells"),
+                    )
+                });
+            (need > size).then(|| {
+                format!("--size {size}: {data} and {field} need {need} bytes, without an entry")
+            })
+        })
+}

@@ -1,0 +1,154 @@
+//! The commands that write, `new`, `append` and `copy`: what was typed after them.
+use crate::arguments::{id, number, time};
+use crate::done::Manner;
+use crate::fault::Fault;
+use crate::files::PATIENCE;
+use crate::words::Words;
+use crate::{append, copy, new};
+use std::ffi::{OsStr, OsString};
+use std::os::unix::ffi::OsStringExt;
+use std::path::PathBuf;
+use std::time::Duration;
+
+pub struct Write {
+    file: PathBuf,
+    what: What,
+    manner: Manner,
+}
+
+enum What {
+    New(new::Wish),
+    Append(append::Wish),
+    Copy { to: PathBuf },
+}
+
+pub fn carry_out(write: Write) -> Result<(), Fault> {
+    let Write { file, what, manner } = &write;
+    match what {
+        What::New(wish) => new::new(file, wish, manner),
+        What::Append(wish) => append::append(file, wish, manner),
+        What::Copy { to } => copy::copy(file, to, manner),
+    }
+}
+
+/// The command of one of the three names.
+pub fn command(name: &str, rest: &[OsString]) -> Result<Write, Fault> {
+    match name {
+        "new" => new_file(rest),
+        "append" => append_one(rest),
+        _ => copied(rest),
+    }
+}
+
+fn new_file(rest: &[OsString]) -> Result<Write, Fault> {
+    let (rest, [unkeyed, quiet]) = flags(rest, ["--unkeyed", "--quiet"]);
+    let names = [
+        "--size",
+        "--data-cells",
+        "--field-cells",
+        "--machine",
+        "--boot",
+        "--seqnum-id",
+    ];
+    let words = Words::new(&rest, &names)?;
+    let wish = new::Wish {
+        size: words.option("--size", size)?,
+        data_cells: words.option("--data-cells", number)?,
+        field_cells: words.option("--field-cells", number)?,
+        unkeyed,
+        machine: words.option("--machine", id)?,
+        boot: words.option("--boot", id)?,
+        seqnum_id: words.option("--seqnum-id", id)?,
+    };
+    let manner = manner(&words, quiet)?;
+    let [file] = words.plain("new FILE and options")?;
+    Ok(Write {
+        file: file.into(),
+        what: What::New(wish),
+        manner,
+    })
+}
+
+fn append_one(rest: &[OsString]) -> Result<Write, Fault> {
+    let (rest, [anyway, quiet]) = flags(rest, ["--anyway", "--quiet"]);
+    let names = [
+        "--seqnum",
+        "--time",
+        "--monotonic",
+        "--machine",
+        "--boot",
+        "--wait",
+    ];
+    let mut words = Words::new(&rest, &names)?;
+    let payloads = words.plain.drain(1.min(words.plain.len())..);
+    let payloads = payloads.map(OsString::into_vec).collect();
+    let wish = append::Wish {
+        seqnum: words.option("--seqnum", number)?,
+        realtime: words.option("--time", time)?,
+        monotonic: words.option("--monotonic", number)?,
+        machine: words.option("--machine", id)?,
+        boot: words.option("--boot", id)?,
+        anyway,
+        payloads,
+    };
+    let manner = manner(&words, quiet)?;
+    let [file] = words.plain("append FILE, options and fields")?;
+    match wish.payloads[..] {
+        [] => Err(Fault::usage("a field NAME=VALUE is missing")),
+        _ => Ok(Write {
+            file: file.into(),
+            what: What::Append(wish),
+            manner,
+        }),
+    }
+}
+
+fn copied(rest: &[OsString]) -> Result<Write, Fault> {
+    let (rest, [quiet]) = flags(rest, ["--quiet"]);
+    let words = Words::new(&rest, &["--wait"])?;
+    let manner = manner(&words, quiet)?;
+    let [file, to] = words.plain("copy FILE TO")?;
+    Ok(Write {
+        file: file.into(),
+        what: What::Copy { to: to.into() },
+        manner,
+    })
+}
+
+fn manner(words: &Words, quiet: bool) -> Result<Manner, Fault> {
+    let wait = words.option("--wait", number)?;
+    Ok(Manner {
+        wait: wait.map_or(PATIENCE, Duration::from_secs),
+        quiet,
+    })
+}
+
+/// Options without a value: the other words, and whether each was given. After `--` there are none.
+fn flags<const N: usize>(words: &[OsString], names: [&str; N]) -> (Vec<OsString>, [bool; N]) {
+    let end = words.iter().position(|word| word == "--");
+    let (options, plain) = words.split_at(end.unwrap_or(words.len()));
+    let given = names.map(|name| options.iter().any(|word| word == name));
+    let others = options
+        .iter()
+        .filter(|word| !names.iter().any(|name| *word == name));
+    (others.chain(plain).cloned().collect(), given)
+}
+
+/// Bytes, or KiB or MiB with K or M after the number.
+fn size(value: &OsStr) -> Result<u64, String> {
+    let text = value.to_string_lossy();
+    let (digits, unit) = match text.strip_suffix('K') {
+        Some(digits) => (digits, 1 << 10),
+        None => text
+            .strip_suffix('M')
+            .map_or((&*text, 1), |digits| (digits, 1 << 20)),
+    };
+    let wrong = "no size: it is bytes, or like 64K or 8M".to_string();
+    let right = !digits.is_empty() && digits.bytes().all(|byte| byte.is_ascii_digit());
+    if !right {
+        return Err(wrong);
+    }
+    let number = digits.parse::<u64>().ok();
+    let bytes = number.and_then(|number| number.checked_mul(unit));
+    bytes.ok_or("above 2^64 - 1".to_string())
+}

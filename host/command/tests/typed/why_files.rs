@@ -1,0 +1,105 @@
+//! The one condition that applies to a file, by its header: 4, 5, 12 and 13.
+use crate::person::{append, asked, bytes, file, folder, made};
+use crate::two::of_two;
+use checks::corpus;
+use checks::generator::frame::set;
+use reading::layout::header;
+use std::path::Path;
+
+/// What all say who read the file; and the rule.
+fn of(path: &Path, number: u64) -> String {
+    let said = asked("check", path).failed_with(path);
+    assert_eq!(asked("list", path).failed_with(path), said);
+    assert_eq!(append(path, 1, &["A=1"]).failed_with(path), said);
+    let both = [path.to_path_buf(), path.to_path_buf()];
+    assert_eq!(of_two("list", &both, &[]).failed_with(path), said);
+    sentence(said, number)
+}
+
+fn sentence(said: String, number: u64) -> String {
+    let (sentence, rule) = said.split_once(" (refusal ").expect("a rule");
+    assert!(rule.starts_with(&format!("{number}: ")), "{said}");
+    sentence.to_string()
+}
+
+#[test]
+fn by_a_newer_systemd() {
+    let compact =
+        "the file was written by a newer systemd, in its compact form, which is not read \
+                   here: use journalctl for it";
+    assert_eq!(of(&corpus::path("trixie-k1-c1-system"), 4), compact);
+    let longer =
+        "the file was written by a newer systemd, its header has 272 bytes and 256 are read \
+                  here: use journalctl for it";
+    assert_eq!(of(&corpus::path("trixie-k1-c0-system"), 5), longer);
+}
+
+#[test]
+fn other_forms() {
+    let folder = folder("why-forms");
+    let image = bytes(&made(&folder, "one.journal", "4096"));
+    let flagged = |flags: u8| {
+        let mut image = image.clone();
+        image[header::INCOMPATIBLE_FLAGS as usize] |= flags;
+        of(&file(&folder, "form.journal", &image), 4)
+    };
+    let compressed = |by: &str| {
+        format!("the file may hold fields compressed by {by}, which are not read here: use journalctl for it")
+    };
+    assert_eq!(flagged(1), compressed("xz"));
+    assert_eq!(flagged(8), compressed("zstd"));
+    assert_eq!(flagged(2 + 8), compressed("lz4 and zstd"));
+    let unknown = "the file was written by a newer systemd, in a form that is not known here: use \
+                   journalctl for it";
+    assert_eq!(flagged(32), unknown);
+}
+
+#[test]
+fn sizes() {
+    let folder = folder("why-sizes");
+    let image = bytes(&made(&folder, "one.journal", "4096"));
+    let changed = |at: u64, value: u64| {
+        let mut image = image.clone();
+        set(&mut image, at, value);
+        of(&file(&folder, "size.journal", &image), 5)
+    };
+    let older =
+        "the file was written by an older systemd, its header has 240 bytes and 256 are read \
+                 here: use journalctl for it";
+    assert_eq!(changed(header::HEADER_SIZE, 240), older);
+    let damaged = "the file is damaged, its header_size is 7 and not 256: restore it from a copy";
+    assert_eq!(changed(header::HEADER_SIZE, 7), damaged);
+    let odd =
+        "the file is damaged, its arena_size of 3841 is no multiple of 8: restore it from a copy";
+    assert_eq!(changed(header::ARENA_SIZE, 3_841), odd);
+    let short = "the end of the file is missing, it has 4096 bytes of 4104: restore it from a copy";
+    assert_eq!(changed(header::ARENA_SIZE, 3_848), short);
+    let short = "the end of the file is missing, it has 4088 bytes of 4096: restore it from a copy";
+    assert_eq!(of(&file(&folder, "cut.journal", &image[..4_088]), 5), short);
+}
+
+/// What can be read and takes no append.
+#[test]
+fn no_appends() {
+    let folder = folder("why-no-appends");
+    let image = bytes(&made(&folder, "one.journal", "4096"));
+    let changed = |at: u64, value: u8, number: u64| {
+        let mut image = image.clone();
+        image[at as usize] = value;
+        let path = file(&folder, "changed.journal", &image);
+        asked("list", &path).done();
+        let said = append(&path, 1, &["A=1"]).failed_with(&path);
+        let said = sentence(said, number);
+        let rest = said.strip_suffix(": it can be read, append to a new file");
+        rest.unwrap_or_else(|| panic!("{said}")).to_string()
+    };
+    let sealed = "the file is sealed, and an append would break the seal";
+    assert_eq!(changed(header::COMPATIBLE_FLAGS, 1, 12), sealed);
+    let newer = "the file has a feature of a newer systemd that an append would break";
+    assert_eq!(changed(header::COMPATIBLE_FLAGS, 2, 12), newer);
+    let cut_off = "the file is in use, or an append to it was cut off";
+    assert_eq!(changed(header::STATE, 1, 13), cut_off);
+    assert_eq!(changed(header::STATE, 2, 13), "the file is archived");
+    let unknown = "the file has state 3, which is not known here";
+    assert_eq!(changed(header::STATE, 3, 13), unknown);
+}
