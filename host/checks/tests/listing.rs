@@ -3,6 +3,7 @@
 use checks::corpus;
 use checks::generator::any::any;
 use checks::generator::mutation::targeted;
+use checks::generator::set_clock::{series, PLAIN};
 use checks::generator::worked::{made, two_appends, LISTING};
 use checks::program::list;
 use checks::random::Random;
@@ -48,6 +49,21 @@ fn real_files() {
             _ => format!("refused {number}\n"),
         };
         assert_eq!(list(&corpus::image(name)), text, "{name}");
+    }
+}
+
+/// Files whose clock was set: in the order of their entries.
+#[test]
+fn wall_times_that_fall() {
+    for (what, times) in series() {
+        let image = PLAIN.file(&times);
+        let text = list(&image);
+        assert_eq!(text, listing(&image), "{what}");
+        let column = text
+            .lines()
+            .filter_map(|line| line.split(' ').nth(1)?.parse().ok());
+        let listed: Vec<u64> = column.take(times.len()).collect();
+        assert_eq!(listed, times, "{what}");
     }
 }
 

@@ -37,6 +37,7 @@ pub fn append(path: &Path, wish: &Wish, manner: &Manner) -> Result<(), Fault> {
         seqnum: wish
             .seqnum
             .unwrap_or(last.map_or(0, |entry| entry.seqnum).saturating_add(1)),
+        // The present, also where the last entry lies after it: its clock may have been set since.
         realtime: wish.realtime.map_or_else(now, Ok)?,
         monotonic: wish.monotonic.map_or_else(monotonic, Ok)?,
         fields: fields.packed(),

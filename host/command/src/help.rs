@@ -33,7 +33,7 @@ journal: reads and writes systemd journal files of at most 8 MiB
   list FILE                      a line for each committed entry
   show FILE SEQNUM               one entry with all its fields; also: last
   find FILE --seqnum N           the first entry with this number or above
-  find FILE --time T             the first entry at this wall time or later
+  find FILE --time T             the first in order at this wall time or later
   find FILE --field NAME=VALUE   the entries that hold this very field
   newest FILE NAME               each value of a field with its newest entry
   values FILE NAME               field values by first appearance, last first
@@ -102,7 +102,8 @@ Bytes that do not print show as \\xNN, a backslash as \\\\.
         concat!(
             "\
 find FILE [FILE2] --seqnum N: the first entry with this number or above
-find FILE [FILE2] --time T: the first entry at this wall time or later
+find FILE [FILE2] --time T: the first in order at this wall time or later; where
+a clock was set back, entries behind it may be of earlier times
 find FILE [FILE2] --field NAME=VALUE ..: the entries that hold this very field,
 of several --field all of them. NAME=VALUE is typed as it is printed: \\xNN is a
 byte, \\\\ a backslash, and no other backslash is taken.

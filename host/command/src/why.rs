@@ -56,17 +56,6 @@ impl Append<'_> {
                     .to_string(),
             });
         }
-        if request.realtime < last.realtime {
-            let [new, old] = [request.realtime, last.realtime]
-                .map(|time| format!("{} ({time})", times::shown(time)));
-            return Some(match self.wish.realtime {
-                Some(_) => format!("--time {new}: the last entry is of {old}, which is later"),
-                None => format!(
-                    "this machine's clock shows {new}, and the last entry is of {old}, which is \
-                     later: set the clock, or give --time"
-                ),
-            });
-        }
         let (new, old) = (request.monotonic, last.monotonic);
         if *request.boot == last.boot_id && new < old {
             return Some(match self.wish.monotonic {

@@ -8,7 +8,7 @@ pub enum Question {
     Entry(u64),
     /// The first committed entry with seqnum at or above.
     FirstSeqnum(u64),
-    /// The first committed entry with realtime at or above.
+    /// The first committed entry in order with realtime at or above.
     FirstRealtime(u64),
     /// The item of an entry (its offset) at a place.
     Item(u64, u64),

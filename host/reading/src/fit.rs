@@ -99,7 +99,8 @@ fn counters(image: &Image, found: &mut Vec<Clause>) {
 }
 
 /// "head or tail fact ... disagrees with the objects (head and tail seqnum and realtime 0 when
-/// empty; tail_entry_monotonic free when empty ...)"
+/// empty; tail_entry_monotonic free when empty ...)". They are those of the first and the last
+/// entry, also where another one has the least or the greatest realtime.
 fn facts(image: &Image, found: &mut Vec<Clause>) {
     let committed = committed(image);
     let of = |offset: Option<&u64>, at: u64| offset.map_or(0, |offset| image.word(offset + at));
@@ -182,8 +183,8 @@ pub fn fifteen(image: &Image, request: &Request, found: &mut Vec<Clause>) {
     }
 }
 
-/// 17: "seqnum 0; or against the last committed entry, if any: seqnum not above, realtime
-/// below, same boot and monotonic below". The boot is the last committed ENTRY's.
+/// 17: "seqnum 0; or against the last committed entry, if any: seqnum not above, same boot and
+/// monotonic below". The boot is the last committed ENTRY's. "Realtime may now fall."
 pub fn seventeen(image: &Image, request: &Request, found: &mut Vec<Clause>) {
     if request.seqnum == 0 {
         found.push(NEW_SEQNUM_ZERO);
@@ -191,9 +192,6 @@ pub fn seventeen(image: &Image, request: &Request, found: &mut Vec<Clause>) {
     if let Some(last) = committed(image).last() {
         if request.seqnum <= image.word(last + entry::SEQNUM) {
             found.push(NEW_SEQNUM);
-        }
-        if request.realtime < image.word(last + entry::REALTIME) {
-            found.push(NEW_REALTIME);
         }
         let same_boot = id(image.bytes, last + entry::BOOT_ID) == request.boot_id;
         if same_boot && request.monotonic < image.word(last + entry::MONOTONIC) {

@@ -34,7 +34,8 @@ pub fn by_seqnum(image: &[u8], seqnum: u64) -> Result<Option<Offset>, Refusal> {
     found(raw::by_seqnum(image, seqnum))
 }
 
-/// The first committed entry with a wall time at or above one.
+/// The first committed entry in order with a wall time at or above one. Wall times may fall: those
+/// after it may lie below, and one of them may be nearer.
 pub fn by_realtime(image: &[u8], realtime: u64) -> Result<Option<Offset>, Refusal> {
     found(raw::by_realtime(image, realtime))
 }

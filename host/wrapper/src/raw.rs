@@ -85,7 +85,7 @@ pub fn by_seqnum(image: &[u8], seqnum: u64) -> u64 {
     unsafe { call!(journal_by_seqnum(read image, number seqnum) -> u64) }
 }
 
-/// The first committed entry with a wall time at or above one: answers as `entry`.
+/// The first committed entry in order with a wall time at or above one: answers as `entry`.
 #[inline]
 pub fn by_realtime(image: &[u8], realtime: u64) -> u64 {
     unsafe { call!(journal_by_realtime(read image, number realtime) -> u64) }

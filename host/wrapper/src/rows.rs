@@ -48,8 +48,7 @@ pub const ROWS: [(&str, &str); 21] = [
         "the file is damaged, its entries are not all there or not in order: restore it from a \
          copy",
         "n_entries above the chain's items; a committed item that is no ENTRY; offsets or seqnums \
-         not strictly rising; seqnum 0; realtime falling; monotonic falling between neighbours of \
-         equal boot id",
+         not strictly rising; seqnum 0; monotonic falling between neighbours of equal boot id",
     ),
     (
         "the file is damaged, the list of the entries with some field is wrong: restore it from a \
@@ -94,10 +93,10 @@ pub const ROWS: [(&str, &str); 21] = [
          without `=`; name not 1 to 64 of A-Z, 0-9, _ or starting with a digit",
     ),
     (
-        "the entry would not come after the last one: give a higher sequence number, and times that \
-         are not earlier",
-        "seqnum 0; or against the last committed entry, if any: seqnum not above, realtime below, \
-         same boot and monotonic below",
+        "the entry would not come after the last one: give a higher sequence number, and in the same \
+         boot a monotonic time that is not earlier",
+        "seqnum 0; or against the last committed entry, if any: seqnum not above, same boot and \
+         monotonic below",
     ),
     (
         "the file is full: make a new one",

@@ -1,6 +1,6 @@
 //! The lookups: arrays are passed as a whole, sequence numbers and offsets found by binary search,
-//! wall times asked in order, payloads and names found through their cells. Each of these wants an
-//! image that opens.
+//! wall times asked in order, since they may fall, payloads and names found through their cells. Each
+//! of these wants an image that opens.
 use super::arrays::{binary_search, committed, last_committed, Arrays};
 use super::bytes::{u32_at, u64_at};
 use reading::lookup3::hashlittle2;

@@ -53,7 +53,8 @@ impl Ranges {
     }
 }
 
-/// The stamps of one file, entry by entry, as refusals 9 and 17 want them.
+/// The stamps of one file, entry by entry, as refusals 9 and 17 want them: the wall clock is set now
+/// and then, back too.
 pub struct Clock {
     next: Stamped,
     ranges: Ranges,
@@ -63,7 +64,10 @@ impl Clock {
     pub fn tick(&mut self, random: &mut Random) -> Stamped {
         let now = self.next;
         self.next.seqnum += between(random, 1, 2);
-        self.next.realtime += between(random, 0, 1);
+        self.next.realtime = match once_in(random, 4) {
+            true => self.ranges.realtime + between(random, 0, 4),
+            false => now.realtime + between(random, 0, 1),
+        };
         if once_in(random, 3) {
             let [one, other] = self.ranges.boots;
             self.next.boot_id = if now.boot_id == one { other } else { one };

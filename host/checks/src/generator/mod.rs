@@ -21,6 +21,8 @@ mod render_header;
 mod render_links;
 pub mod rendered;
 pub mod requests;
+pub mod set_clock;
 mod strays;
+pub mod wall_clock;
 pub mod wish;
 pub mod worked;

@@ -1,5 +1,6 @@
 //! Requests for appends.
 use super::dice::{between, edge, once_in, pick, shuffle};
+use super::wall_clock::set;
 use crate::random::Random;
 use reading::image::{id, name_of};
 use reading::layout::{entry, header, kind};
@@ -31,7 +32,8 @@ impl Asked {
     }
 }
 
-/// A request that 15 to 17 let pass, if the image opens and its numbers leave room.
+/// A request that 15 to 17 let pass, if the image opens and its numbers leave room. Its wall time may
+/// lie before the last entry's.
 pub fn fitting(random: &mut Random, image: &[u8]) -> Asked {
     let mut asked = Asked {
         machine_id: random.array(),
@@ -49,7 +51,11 @@ pub fn fitting(random: &mut Random, image: &[u8]) -> Asked {
     if let Some(&last) = journal.committed.last() {
         let word = |at: u64| journal.image.word(last + at);
         asked.seqnum = word(entry::SEQNUM).saturating_add(pick(random, &[1, 1, 2, 1 << 62]));
-        asked.realtime = word(entry::REALTIME).saturating_add(pick(random, &[0, 0, 1, 1 << 62]));
+        let realtime = word(entry::REALTIME);
+        asked.realtime = match once_in(random, 3) {
+            true => set(random, realtime),
+            false => realtime.saturating_add(pick(random, &[0, 0, 1, 1 << 62])),
+        };
         if once_in(random, 2) {
             asked.boot_id = id(image, last + entry::BOOT_ID);
             asked.monotonic =
@@ -118,12 +124,7 @@ pub fn change(clause: Clause, random: &mut Random, image: &[u8], asked: &mut Ask
         Ok(journal) => journal.committed.last().map(|last| {
             let word = |at: u64| journal.image.word(last + at);
             let boot_id = id(image, last + entry::BOOT_ID);
-            (
-                word(entry::SEQNUM),
-                word(entry::REALTIME),
-                word(entry::MONOTONIC),
-                boot_id,
-            )
+            (word(entry::SEQNUM), word(entry::MONOTONIC), boot_id)
         }),
         Err(_) => None,
     };
@@ -170,11 +171,7 @@ pub fn change(clause: Clause, random: &mut Random, image: &[u8], asked: &mut Ask
             asked.seqnum = pick(random, &[seqnum, seqnum - 1, 1, seqnum ^ 1 << 63]);
             return asked.seqnum <= seqnum && asked.seqnum > 0;
         }
-        (NEW_REALTIME, Some((_, realtime, ..))) => {
-            asked.realtime = pick(random, &[realtime.wrapping_sub(1), 0, realtime ^ 1 << 63]);
-            return asked.realtime < realtime;
-        }
-        (NEW_MONOTONIC, Some((.., monotonic, boot_id))) => {
+        (NEW_MONOTONIC, Some((_, monotonic, boot_id))) => {
             asked.boot_id = boot_id;
             asked.monotonic = pick(random, &[monotonic.wrapping_sub(1), 0]);
             return asked.monotonic < monotonic;

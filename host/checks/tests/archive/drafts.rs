@@ -62,7 +62,8 @@ fn drafts_one_by_one() {
             let mut draft = example();
             draft.keyed = keyed;
             redraw(&mut draft);
-            // Entries rise with their offsets, also where the objects stand in another order.
+            // Sequence numbers rise with offsets, also where the objects stand in another order; wall
+            // times fall then.
             if *what == "objects in another order" {
                 draft.committed.reverse();
                 renumber(&mut draft);
@@ -82,7 +83,7 @@ fn drafts_one_by_one() {
 fn renumber(draft: &mut Draft) {
     for (n, entry) in draft.committed.clone().into_iter().enumerate() {
         let it = draft.entry_mut(entry);
-        (it.seqnum, it.realtime, it.monotonic) = (n as u64 + 1, n as u64, n as u64);
+        (it.seqnum, it.monotonic) = (n as u64 + 1, n as u64);
     }
     let items: Vec<Item> = draft.committed.iter().map(|&it| Item::Entry(it)).collect();
     draft.array_mut(GLOBAL).items[..3].copy_from_slice(&items);

@@ -16,5 +16,7 @@ mod open;
 mod pages;
 mod paging;
 mod questions;
+mod set_clock;
+mod set_clocks;
 mod streams;
 mod words;

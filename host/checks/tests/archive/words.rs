@@ -12,7 +12,7 @@ type Change = fn(&mut Rendered);
 #[test]
 fn words_one_by_one() {
     let mut tried = tried();
-    let cases: [(&str, u64, Change); 25] = [
+    let cases: [(&str, u64, Change); 30] = [
         ("ENTRY items falling", 8, |it| {
             let items = it.offsets[FIRST] + entry::ITEMS;
             let (one, other) = (it.word(items), it.word(items + 16));
@@ -60,6 +60,23 @@ fn words_one_by_one() {
         }),
         ("a sequence number of 2^64 - 1 at last", 0, |it| {
             it.set(it.offsets[LAST] + entry::SEQNUM, u64::MAX)
+        }),
+        ("realtime falling by one", 0, |it| {
+            let before = it.word(it.offsets[FIRST] + entry::REALTIME);
+            it.set(it.offsets[FIRST + 1] + entry::REALTIME, before - 1)
+        }),
+        ("realtime falling over 2^63", 0, |it| {
+            it.set(it.offsets[FIRST + 1] + entry::REALTIME, 1 << 63)
+        }),
+        ("realtime falling to 0 at last", 0, |it| {
+            it.set(it.offsets[LAST] + entry::REALTIME, 0)
+        }),
+        ("realtime falling from 2^64 - 1", 0, |it| {
+            it.set(it.offsets[FIRST] + entry::REALTIME, u64::MAX)
+        }),
+        ("realtime and monotonic falling, same boot", 9, |it| {
+            it.set(it.offsets[LAST] + entry::REALTIME, 0);
+            it.set(it.offsets[LAST] + entry::MONOTONIC, 50)
         }),
         ("monotonic falling, same boot", 9, |it| {
             it.set(it.offsets[LAST] + entry::MONOTONIC, 50)

@@ -13,6 +13,7 @@ mod export;
 mod file;
 mod lookups;
 mod payloads;
+mod set_clock;
 mod stamps;
 mod streams;
 mod written;

@@ -17,10 +17,10 @@ use checks::random::Random;
 use reading::layout::header;
 
 /// Stamps and payloads of entries.
-type Logged = Vec<(At, Vec<Vec<u8>>)>;
+pub type Logged = Vec<(At, Vec<Vec<u8>>)>;
 
 /// A file under a seqnum id.
-fn file(seqnum_id: u8, keyed: u64, entries: &Logged) -> Vec<u8> {
+pub fn file(seqnum_id: u8, keyed: u64, entries: &Logged) -> Vec<u8> {
     let mut image = new(65_536, (7, 3), keyed);
     image[header::SEQNUM_ID as usize..][..16].fill(seqnum_id);
     for (at, payloads) in entries {
@@ -29,15 +29,20 @@ fn file(seqnum_id: u8, keyed: u64, entries: &Logged) -> Vec<u8> {
     image
 }
 
-/// Both show the same; how many entries.
-fn same(first: &[u8], second: &[u8]) -> usize {
+/// The stream by the archive, and by journalctl.
+pub fn both(first: &[u8], second: &[u8]) -> [Vec<Entry>; 2] {
     let all = wrapper::all_merged(first, second).expect("both open");
     let shown = all
         .iter()
         .map(|(which, entry)| looked_up(which.of(first, second), entry.offset));
     let [one, other] = [first, second].map(File::new);
     let exported = parsed(&one.prints_with(&other, &["--output=export"]));
-    let shown: Vec<Entry> = shown.collect();
+    [shown.collect(), exported]
+}
+
+/// Both show the same; how many entries.
+pub fn same(first: &[u8], second: &[u8]) -> usize {
+    let [shown, exported] = both(first, second);
     assert!(exported == shown, "journalctl shows another stream");
     shown.len()
 }

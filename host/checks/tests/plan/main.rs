@@ -12,3 +12,4 @@ mod many;
 mod order;
 mod places;
 mod refusals;
+mod set_clock;

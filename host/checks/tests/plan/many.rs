@@ -32,6 +32,8 @@ fn special(image: &[u8], request: &Request) -> Vec<&'static str> {
     let first = le64(image, header::N_ENTRIES) == 0;
     see(first, "a first entry");
     see(!first, "a later entry");
+    let earlier = request.realtime < le64(image, header::TAIL_ENTRY_REALTIME);
+    see(earlier, "a wall time before the last entry's");
     see(all.len() > payloads.len(), "a repeat");
     let value = |it: &[u8]| it.len() - name_of(it).expect("taken").len() - 1;
     see(payloads.iter().any(|it| value(it) == 0), "an empty value");
@@ -94,7 +96,7 @@ fn special(image: &[u8], request: &Request) -> Vec<&'static str> {
 }
 
 /// What `special` can say.
-const KINDS: usize = 24;
+const KINDS: usize = 25;
 
 #[test]
 fn appends_of_every_kind() {

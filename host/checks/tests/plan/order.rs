@@ -1,4 +1,5 @@
-//! 17: sequence numbers, wall times and monotonic times against those of the last committed entry.
+//! 17: sequence numbers and monotonic times against those of the last committed entry; a wall time may
+//! be any.
 use checks::generator::worked::request;
 use reading::request::{packed, Request};
 
@@ -51,10 +52,12 @@ fn later_entries() {
                     boot_id,
                     ..request(&fields, 2, realtime, monotonic)
                 };
-                let number = if next >= last { 0 } else { 17 };
-                assert_eq!(tried.append(&image, ask(next, last)), number);
-                // Monotonic times are compared in one boot alone.
-                let number = if boot_id == BOOT { number } else { 0 };
+                // Monotonic times are compared in one boot alone, and wall times not at all.
+                let number = match boot_id == BOOT && next < last {
+                    true => 17,
+                    false => 0,
+                };
+                assert_eq!(tried.append(&image, ask(next, last)), 0);
                 assert_eq!(tried.append(&image, ask(last, next)), number);
             }
         }

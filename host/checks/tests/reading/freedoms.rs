@@ -1,14 +1,13 @@
-//! The generator's good images have the freedoms that the rules leave, and its appends every form.
+//! The generator's good images have the freedoms that the rules leave.
 use std::collections::BTreeMap;
 
 use checks::generator::draft::{Item, Part};
+use checks::generator::good;
 use checks::generator::rendered::Rendered;
-use checks::generator::{appends, good};
 use checks::random::Random;
 use reading::committed::{counted, list};
-use reading::layout::{data, header};
+use reading::layout::data;
 use reading::lookup::open;
-use reading::plan::plan;
 
 /// What is special about a good image.
 fn freedoms(made: &Rendered) -> Vec<&'static str> {
@@ -41,6 +40,25 @@ fn freedoms(made: &Rendered) -> Vec<&'static str> {
         draft.committed.is_empty() && !draft.parts.is_empty(),
         "objects, and no entry committed",
     );
+    let times: Vec<u64> = draft
+        .committed
+        .iter()
+        .map(|&part| draft.entry(part).realtime)
+        .collect();
+    let falls = times.windows(2).position(|pair| pair[1] < pair[0]);
+    see(falls.is_none() && times.len() > 1, "no realtime falling");
+    see(falls.is_some(), "a realtime falling");
+    let over = |pair: &[u64]| pair[0] >= 1 << 63 && pair[1] < 1 << 63;
+    see(times.windows(2).any(over), "a realtime falling over 2^63");
+    if let Some(place) = falls {
+        let (before, after) = times.split_at(place + 1);
+        let highest = before.iter().max();
+        see(after.iter().max() > highest, "a realtime risen again");
+        see(
+            times.first() > times.last(),
+            "a tail realtime below the head's",
+        );
+    }
     for (number, part) in draft.parts.iter().enumerate() {
         let at = made.offsets[number];
         match part {
@@ -119,7 +137,8 @@ fn freedoms(made: &Rendered) -> Vec<&'static str> {
     seen
 }
 
-fn count(table: &mut BTreeMap<&'static str, u64>, mut seen: Vec<&'static str>) {
+/// Counts each once.
+pub fn count(table: &mut BTreeMap<&'static str, u64>, mut seen: Vec<&'static str>) {
     seen.sort();
     seen.dedup();
     for what in seen {
@@ -136,60 +155,6 @@ fn good_images_have_every_freedom() {
     for (what, times) in &table {
         println!("{times:>6} {what}");
     }
-    assert_eq!(table.len(), 27);
+    assert_eq!(table.len(), 32);
     assert!(table.values().all(|&times| times >= 40));
-}
-
-#[test]
-fn appends_have_every_form() {
-    let mut table = BTreeMap::new();
-    for seed in 0..4_000 {
-        let case = appends::good(&mut Random::new(seed));
-        let Ok(stores) = plan(&case.image, &case.asked.request()) else {
-            continue;
-        };
-        let Ok(journal) = open(&case.image) else {
-            panic!("opens")
-        };
-        let mut seen = Vec::new();
-        let items = journal
-            .image
-            .chain_items(journal.image.word(header::ENTRY_ARRAY_OFFSET));
-        match items.get(journal.committed.len()) {
-            None if items.is_empty() => seen.push("the first global array"),
-            None => seen.push("a later global array"),
-            Some((at, _)) if stores.iter().any(|store| store.offset == *at) => {
-                seen.push("a spare global item")
-            }
-            Some(_) => seen.push("a spare global item that holds the entry already"),
-        }
-        for object in journal.image.of_kind(1) {
-            let Some(store) = stores
-                .iter()
-                .find(|store| store.offset == object.offset + data::N_ENTRIES)
-            else {
-                continue;
-            };
-            let first = journal.image.word(object.offset + data::ENTRY_ARRAY_OFFSET);
-            let (room, counted) = (
-                journal.image.chain_items(first).len() as u64,
-                store.value - 1,
-            );
-            seen.push(match counted {
-                0 => "an old DATA of count 0",
-                _ if room > counted - 1 => "a DATA's spare item",
-                1 => "a DATA's first array",
-                _ => "a DATA's later array",
-            });
-        }
-        if journal.committed.is_empty() {
-            seen.push("a first entry");
-        }
-        count(&mut table, seen);
-    }
-    for (what, times) in &table {
-        println!("{times:>6} {what}");
-    }
-    assert_eq!(table.len(), 9);
-    assert!(table.values().all(|&times| times >= 20));
 }

@@ -63,8 +63,9 @@ fn as_chosen_here() {
             .expect("after 1970");
         now.as_micros() as u64
     };
-    let mut last = [now(), 0];
+    let mut last = 0;
     for seqnum in 1..4 {
+        let before = now();
         typed("append", &path, &["A=1"]).done();
         let shown = typed("show", &path, &[seqnum.to_string()]).done();
         let fact = |name: &str| {
@@ -76,9 +77,10 @@ fn as_chosen_here() {
                 .to_string()
         };
         let times = ["realtime", "monotonic"].map(|name| fact(name).parse().expect("a number"));
-        assert!(last[0] <= times[0] && times[0] <= now(), "{shown}");
-        assert!(last[1] < times[1], "{shown}");
-        last = times;
+        let [realtime, monotonic] = times;
+        assert!(before <= realtime && realtime <= now(), "{shown}");
+        assert!(last < monotonic, "{shown}");
+        last = monotonic;
         let boot = std::fs::read_to_string("/proc/sys/kernel/random/boot_id");
         assert_eq!(
             fact("boot id") + "\n",

@@ -21,6 +21,8 @@ fn a_screen_of_all() {
         let start = format!("\n  {command} FILE");
         assert!(all.contains(&start), "{command}");
     }
+    // Wall times may fall, so "the first" is no time but a place.
+    assert!(all.contains("--time T             the first in order at this wall time"));
     for words in [
         &["help"][..],
         &["-h"],

@@ -22,6 +22,7 @@ mod replaced;
 mod rotated;
 mod run;
 mod selected;
+mod set_clock;
 mod shortened;
 mod signals;
 mod times;

@@ -1,5 +1,5 @@
 //! The one condition of 17 that applies, with the last entry's value and the argument it is about.
-use crate::person::{folder, made, options, typed, MACHINE};
+use crate::person::{options, typed, MACHINE};
 use crate::why::{five, why};
 
 #[test]
@@ -24,11 +24,10 @@ fn stamps() {
         );
         assert_eq!(sentence(&[(0, seqnum), (1, "7")]), expected);
     }
-    let early = "--time 1970-01-01 00:00:00.000007 +0000 (7): the last entry is of 2023-11-14 \
-                 22:13:20.000005 +0000 (1700000000000005), which is later";
-    assert_eq!(sentence(&[(1, "7"), (2, "7")]), early);
     let expected = "--monotonic 7: the last entry, of the same boot, has 55";
     assert_eq!(sentence(&[(2, "7")]), expected);
+    // Of an earlier wall time nothing is said: clocks are set back.
+    assert_eq!(sentence(&[(1, "7"), (2, "7")]), expected);
 
     // A number that is chosen here is not blamed on an option.
     let mut greatest = options(6);
@@ -40,24 +39,4 @@ fn stamps() {
                     file";
     let words = ["--machine", MACHINE, "A=1"].map(str::to_string);
     assert_eq!(why(&path, &words, 17), expected);
-}
-
-#[test]
-fn the_clock() {
-    let path = made(&folder("why-clock"), "one.journal", "65536");
-    let words = [
-        "--machine",
-        MACHINE,
-        "--time",
-        "4107542400000000",
-        "--anyway",
-    ];
-    typed("append", &path, &[&words[..], &["A=1"]].concat()).done();
-    let words = ["--machine", MACHINE, "A=1"].map(str::to_string);
-    let said = why(&path, &words, 17);
-    assert!(said.starts_with("this machine's clock shows 20"), "{said}");
-    let end =
-        ", and the last entry is of 2100-03-01 00:00:00.000000 +0000 (4107542400000000), which \
-               is later: set the clock, or give --time";
-    assert!(said.ends_with(end), "{said}");
 }

@@ -84,7 +84,6 @@ clauses! { CLAUSES:
     SEQNUMS_EQUAL = 9, "seqnums equal";
     SEQNUMS_FALLING = 9, "seqnums falling";
     SEQNUM_ZERO = 9, "seqnum 0";
-    REALTIME_FALLING = 9, "realtime falling";
     MONOTONIC_FALLING = 9, "monotonic falling between neighbours of equal boot id";
 
     CHAIN_SHORT = 10, "a DATA's chain too short for its count";
@@ -152,7 +151,6 @@ clauses! { APPEND_CLAUSES:
 
     NEW_SEQNUM_ZERO = 17, "seqnum 0";
     NEW_SEQNUM = 17, "seqnum not above";
-    NEW_REALTIME = 17, "realtime below";
     NEW_MONOTONIC = 17, "same boot and monotonic below";
 
     PASSES_ARENA = 18, "the new objects pass the arena's end";

@@ -5,8 +5,8 @@ use crate::image::{id, Image};
 use crate::layout::{entry, header, kind};
 
 /// 9: "n_entries above the chain's items; a committed item that is no ENTRY; offsets or
-/// seqnums not strictly rising; seqnum 0; realtime falling; monotonic falling between
-/// neighbours of equal boot id".
+/// seqnums not strictly rising; seqnum 0; monotonic falling between neighbours of equal boot
+/// id". "Realtime may now fall": a clock may be set, so it is compared with nothing.
 pub fn nine(image: &Image, found: &mut Vec<Clause>) {
     let committed = committed(image);
     if image.word(header::N_ENTRIES) > committed.len() as u64 {
@@ -45,10 +45,6 @@ fn neighbours(image: &Image, one: u64, next: u64, found: &mut Vec<Clause>) {
     }
     if next_seqnum < seqnum {
         found.push(SEQNUMS_FALLING);
-    }
-    let (realtime, next_realtime) = pair(entry::REALTIME);
-    if next_realtime < realtime {
-        found.push(REALTIME_FALLING);
     }
     let (monotonic, next_monotonic) = pair(entry::MONOTONIC);
     let same_boot = id(image.bytes, one + entry::BOOT_ID) == id(image.bytes, next + entry::BOOT_ID);

@@ -37,7 +37,6 @@ impl Open<'_> {
     fn out_of_order(&self, one: usize, next: usize) -> bool {
         next <= one
             || self.word(next + 16) <= self.word(one + 16)
-            || self.word(next + 24) < self.word(one + 24)
             || self.word(next + 32) < self.word(one + 32)
                 && self.image[next + 40..next + 56] == self.image[one + 40..one + 56]
     }

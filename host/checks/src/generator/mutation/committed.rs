@@ -88,12 +88,6 @@ fn neighbours(
             made.set(next + entry::SEQNUM, fallen);
             return fallen < seqnum && fallen > 0;
         }
-        REALTIME_FALLING => {
-            let realtime = made.word(one + entry::REALTIME);
-            let fallen = pick(random, &[realtime.wrapping_sub(1), 0, realtime ^ 1 << 63]);
-            made.set(next + entry::REALTIME, fallen);
-            return fallen < realtime;
-        }
         MONOTONIC_FALLING => {
             for word in [entry::BOOT_ID, entry::BOOT_ID + 8] {
                 let half = made.word(one + word);
