@@ -2,7 +2,7 @@
 //! is about. The number is the library's; the words are worked out from the file and the request.
 use crate::append::Wish;
 use crate::text::shown;
-use crate::{ids, times};
+use crate::ids;
 use wrapper::{Entry, Refusal, Request};
 
 /// An append, and the file that it is for.
