@@ -9,8 +9,9 @@ use number::number::u32_at;
 use number::number::u32_or_0;
 ghost use mathlib.Core.Path.{_≡_};
 ghost use Prim.Native.Nat.{_+_, _*_, _<_, _≤_};
-ghost use lib.ListN.{length};
-ghost use Rattle.format.specs.Lookup3.{mixLines, finalLines, finalLine, final, start, absorb, mixed, lastBlock, hashlittle2};
+ghost use lib.ListN.{length, drop};
+ghost use Rattle.format.specs.Number.{numberAt};
+ghost use Rattle.format.specs.Lookup3.{mixLines, finalLines, finalLine, final, start, absorb, mixed, lastBlock, padded, hashlittle2};
 ghost use Rattle.format.specs.Lookup3.{mix as Lookup3·mix};
 
 // Three lines of lookup3.c's mix(a, b, c), with the amounts that they rotate by.
@@ -87,15 +88,37 @@ fn block(s: Abc, bytes: &[u8], at: usize) -> Abc
     }
 }
 
-// The same for the last block, of which bytes may be missing: they count as 0.
+// The three words of a block of twelve bytes, lookup3.c's k[0], k[1] and k[2].
+struct Words {
+    k0: u32,
+    k1: u32,
+    k2: u32,
+}
+
+// The last one to twelve bytes, those from `at` on, as one block padded with zero bytes: a byte past the end is 0.
+fn padded_block(bytes: &[u8], at: usize) -> Words
+    requires { ⌜ at ≤ length (now bytes) ⌝ }
+    ensures { λ r. ⌜ r .k0 ≡ numberAt 4 (padded (drop at (now (bytes .entry)))) 0 ⌝ }
+    ensures { λ r. ⌜ r .k1 ≡ numberAt 4 (padded (drop at (now (bytes .entry)))) 4 ⌝ }
+    ensures { λ r. ⌜ r .k2 ≡ numberAt 4 (padded (drop at (now (bytes .entry)))) 8 ⌝ }
+{
+    Words {
+        k0: u32_or_0(bytes, at),
+        k1: u32_or_0(bytes, at + 4),
+        k2: u32_or_0(bytes, at + 8),
+    }
+}
+
+// The words with that block added.
 fn last_block(s: Abc, bytes: &[u8], at: usize) -> Abc
     requires { ⌜ at ≤ length (now bytes) ⌝ }
-    ensures { λ r. ⌜ r ≡ absorb (now (bytes .entry)) at s ⌝ }
+    ensures { λ r. ⌜ r ≡ absorb (padded (drop at (now (bytes .entry)))) 0 s ⌝ }
 {
+    let k = padded_block(bytes, at);
     Abc {
-        a: add32(s.a, u32_or_0(bytes, at)),
-        b: add32(s.b, u32_or_0(bytes, at + 4)),
-        c: add32(s.c, u32_or_0(bytes, at + 8)),
+        a: add32(s.a, k.k0),
+        b: add32(s.b, k.k1),
+        c: add32(s.c, k.k2),
     }
 }
 

@@ -7,20 +7,10 @@ use Rattle.hash.proofs.lookup3.last_block.Tie as tie
 
 returns : tie.Need-returns
 unfolding absorb
-returns c =
-    rw (
-      c .add323 .ensures,
-      c .before .u32-or-03 .ensures,
-      c .before .before .add322 .ensures,
-      c .before .before .before .u32-or-02 .ensures,
-      c .before .before .before .before .add32 .ensures,
-      c .before .before .before .before .before .u32-or-0 .ensures,
-    )
-    refl
+returns c = cc
 
 pub last-block-spec : {M : Type 1} → statement M
 last-block-spec =
     tie.close
     (tie.spec
-    (λ c κs. search needs) (λ c κs. search needs) (λ c. search needs) (λ c κs. search needs) (λ c κs. search needs)
-    (λ c. search needs) (λ c κs. search needs) (λ c κs. search needs) returns)
+    (λ c κs. search needs) (λ c κs. search needs) (λ c κs. search needs) (λ c κs. search needs) returns)
