@@ -1,3 +1,4 @@
 -- The worked examples of the rules, computed over the definitions, as one statement. Nothing to call.
 pub mod Examples
+pub mod Foreign
 pub mod Streams

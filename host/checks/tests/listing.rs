@@ -2,6 +2,7 @@
 //! the independent reading.
 use checks::corpus;
 use checks::generator::any::any;
+use checks::generator::foreign;
 use checks::generator::mutation::targeted;
 use checks::generator::set_clock::{series, PLAIN};
 use checks::generator::worked::{made, two_appends, LISTING};
@@ -64,6 +65,18 @@ fn wall_times_that_fall() {
             .filter_map(|line| line.split(' ').nth(1)?.parse().ok());
         let listed: Vec<u64> = column.take(times.len()).collect();
         assert_eq!(listed, times, "{what}");
+    }
+}
+
+/// Foreign objects are walked over: the text is the one without them.
+#[test]
+fn foreign_objects() {
+    let mut image = two_appends(1);
+    for kind in 8..=255 {
+        let size = 17 + u64::from(kind) % 8;
+        if foreign::put(&mut image, kind, size).is_some() {
+            assert_eq!(list(&image), LISTING, "{kind}");
+        }
     }
 }
 

@@ -42,6 +42,7 @@ fn all_calls(keyed: bool) {
     let payload = wrapper::item(&image, entry, 0);
     assert_eq!(payload, Some(&b"PRIORITY=2"[..]));
     assert_eq!(wrapper::value(&image, b"PRIORITY", 0), payload);
+    assert_eq!(wrapper::foreign(&image, 0), Ok(None));
 }
 
 #[test]

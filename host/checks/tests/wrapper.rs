@@ -8,7 +8,7 @@ use reading::ask::Question;
 use reading::lookup::open;
 use reading::refusal::CLAUSES;
 use wrapper::raw;
-use wrapper::{Offset, Refusal};
+use wrapper::{Foreign, Offset, Refusal};
 
 /// The number of a lookup's answer.
 fn number(answer: Result<Option<Offset>, Refusal>) -> u64 {
@@ -98,6 +98,23 @@ fn same_lookups(image: &[u8], step: usize) {
     }
 }
 
+/// The foreign objects at every place, and one after the other.
+fn same_foreign(image: &[u8]) {
+    let all = wrapper::foreign_objects(image).map(Vec::from_iter);
+    for place in 0..all.as_ref().map_or(0, Vec::len) as u64 + 2 {
+        let is = raw::foreign(image, place);
+        let typed = wrapper::foreign(image, place);
+        let number = |it: &Foreign| (0, it.offset.0, it.kind.into());
+        let numbers = match &typed {
+            Ok(object) => object.as_ref().map_or((0, 0, 0), number),
+            Err(refusal) => (refusal.number(), 0, 0),
+        };
+        assert_eq!(numbers, (is.refusal, is.offset, is.kind));
+        let listed = all.clone().map(|all| all.get(place as usize).copied());
+        assert_eq!(typed, listed);
+    }
+}
+
 /// All entries and values, against the lookups one by one.
 fn same_pages(image: &[u8]) {
     let mut page = vec![0; image.len().min(300)];
@@ -146,6 +163,7 @@ fn answers() {
         let image = any(&mut Random::new(seed + 80_000));
         same_lookups(&image, 7);
         same_pages(&image);
+        same_foreign(&image);
     }
     for (name, number) in FILES {
         let image = corpus::image(name);
@@ -155,6 +173,7 @@ fn answers() {
         );
         same_lookups(&image, 97);
         same_pages(&image);
+        same_foreign(&image);
     }
 }
 
@@ -166,6 +185,7 @@ fn refusals() {
         assert_eq!(refused, raw::open(&image), "{clause:?}");
         same_lookups(&image, 1);
         same_pages(&image);
+        same_foreign(&image);
     }
     let mut image = [0; 312];
     let made = wrapper::new(&mut image, &[0; 64], 1, 1, false);

@@ -41,6 +41,10 @@ pub enum Command {
     Check {
         file: PathBuf,
     },
+    Foreign {
+        file: PathBuf,
+        form: Form,
+    },
     Write(Write),
 }
 
@@ -64,6 +68,7 @@ pub fn command(words: &[OsString]) -> Result<Command, Fault> {
             let [file] = Words::new(rest, &[])?.plain("check FILE")?;
             Ok(Command::Check { file: file.into() })
         }
+        "foreign" => questions::foreign(rest),
         "new" | "append" | "copy" => writes::command(name, rest).map(Command::Write),
         _ => Err(Fault::usage(format!(
             "no command {}",

@@ -1,14 +1,16 @@
-//! `check`: whether a file can be read, whether it takes appends, and how much room is left in it.
+//! `check`: whether a file can be read, whether it takes appends, how much room is left in it, and
+//! what was walked over.
 use crate::fault::Fault;
 use crate::text::counted;
-use crate::{files, ids};
+use crate::{files, foreign, ids};
 use std::io::Write;
 use std::path::Path;
 use wrapper::{Entry, Planned, Request};
 
 pub fn check(file: &Path, out: &mut impl Write) -> Result<(), Fault> {
     let image = files::read(file)?;
-    let entries = wrapper::all_entries(&image).map_err(|refusal| Fault::refused(file, refusal))?;
+    let refused = |refusal| Fault::refused(file, refusal);
+    let entries = wrapper::all_entries(&image).map_err(refused)?;
     let count = counted(entries.len(), "entry", "entries");
     let room = Room::of(&image);
     let appends = match hindrance(&image, entries.last(), &room) {
@@ -16,7 +18,9 @@ pub fn check(file: &Path, out: &mut impl Write) -> Result<(), Fault> {
         Some(why) => format!("takes no append: {why}"),
     };
     let room = room.words(entries.len() as u64);
-    writeln!(out, "opens, {count}\n{appends}\n{room}").map_err(Fault::answer)
+    let foreign = foreign::words(&image).map_err(refused)?;
+    let foreign = foreign.map_or(String::new(), |words| format!("{words}\n"));
+    write!(out, "opens, {count}\n{appends}\n{room}\n{foreign}").map_err(Fault::answer)
 }
 
 /// What keeps any entry from being appended, if something does: the library is asked for the stores

@@ -1,7 +1,23 @@
-//! The columns that entries are printed in.
+//! Columns, and those that entries are printed in.
 use crate::source::Row;
 use crate::text::shown;
 use crate::{payload, times};
+
+/// A column of what is printed row by row.
+pub trait Cells<R> {
+    fn heading(&self) -> String;
+
+    /// What a row has in it; none where it has no such thing.
+    fn cell(&self, row: &R) -> Option<String>;
+
+    /// Whether it is set at the right, as numbers are.
+    fn at_the_right(&self) -> bool;
+
+    /// How wide it is at least, in a table.
+    fn width(&self) -> usize {
+        0
+    }
+}
 
 pub enum Column {
     /// 1 or 2, of two files.
@@ -21,8 +37,11 @@ pub enum Column {
 /// backslash or an x comes after a backslash.
 const BETWEEN: &str = "\\|";
 
-impl Column {
-    pub fn heading(&self) -> String {
+/// How long a local time is, of the years from 1000 to 9999.
+const LOCAL: usize = 32;
+
+impl Cells<Row<'_>> for Column {
+    fn heading(&self) -> String {
         match self {
             Column::File => "file".to_string(),
             Column::Seqnum => "seqnum".to_string(),
@@ -34,8 +53,7 @@ impl Column {
         }
     }
 
-    /// What an entry has in it; none where it has no such field.
-    pub fn cell(&self, row: &Row) -> Option<String> {
+    fn cell(&self, row: &Row) -> Option<String> {
         let entry = &row.entry;
         match self {
             Column::File => row.file.map(|file| file.number().to_string()),
@@ -51,8 +69,14 @@ impl Column {
         }
     }
 
-    /// Whether it is set at the right, as numbers are.
-    pub fn at_the_right(&self) -> bool {
+    fn at_the_right(&self) -> bool {
         !matches!(self, Column::Local | Column::Message | Column::Field(_))
+    }
+
+    fn width(&self) -> usize {
+        match self {
+            Column::Local => LOCAL,
+            _ => 0,
+        }
     }
 }

@@ -1,5 +1,5 @@
-//! How entries are printed: in which form, and with which of their fields.
-use crate::columns::Column;
+//! How entries are printed, and other rows: in which form, and with which of an entry's fields.
+use crate::columns::{Cells, Column};
 use crate::fault::Fault;
 use crate::source::Row;
 use crate::text::typed;
@@ -24,8 +24,9 @@ enum Output {
     Json,
 }
 
-/// The options.
+/// The options, of entries and of other rows.
 pub const NAMES: [&str; 3] = ["-o", "--fields", "--no-header"];
+pub const OTHER_NAMES: [&str; 2] = ["-o", "--no-header"];
 
 impl Form {
     pub fn new(words: &Words) -> std::result::Result<Form, Fault> {
@@ -49,12 +50,24 @@ impl Form {
 
     /// Prints entries; those of two files with the number of the file.
     pub fn print(&self, rows: &[Row], of_two: bool, out: &mut impl Write) -> Result<()> {
-        let columns = self.columns(of_two);
         match self.output {
-            Output::Table => table::lines(&columns, rows, self.heading, out),
-            Output::Tsv => separated::tsv(&columns, rows, self.heading, out),
-            Output::Csv => separated::csv(&columns, rows, self.heading, out),
             Output::Json => json::lines(rows, self.fields.as_deref(), out),
+            _ => self.cells(&self.columns(of_two), rows, out),
+        }
+    }
+
+    /// Prints rows of cells.
+    pub fn cells<R>(
+        &self,
+        columns: &[impl Cells<R>],
+        rows: &[R],
+        out: &mut impl Write,
+    ) -> Result<()> {
+        match self.output {
+            Output::Table => table::lines(columns, rows, self.heading, out),
+            Output::Tsv => separated::tsv(columns, rows, self.heading, out),
+            Output::Csv => separated::csv(columns, rows, self.heading, out),
+            Output::Json => json::cells(columns, rows, out),
         }
     }
 

@@ -38,15 +38,15 @@ journal: reads and writes systemd journal files of at most 8 MiB
   newest FILE NAME               each value of a field with its newest entry
   values FILE NAME               field values by first appearance, last first
   check FILE                     whether it can be read and takes appends
+  foreign FILE                   objects of types not known here, walked over
   new FILE                       makes a file, and never overwrites one
   append FILE NAME=VALUE ..      one entry more, on the disk when this ends
   copy FILE TO                   a copy without half an append in it
   help COMMAND                   all of one command, with its options
 
-list, show, find, newest and values take a second file after FILE and read both
-as one stream; what they print then says whether it is from file 1 or file 2.
-list, find and newest have -n N, --reverse, --since T, --until T, --fields A,B,
---no-header and -o, which is table, tsv, csv or json.
+list, show, find, newest and values take a second file after FILE, read both as
+one stream and say from which, 1 or 2; list, find and newest have --since T,
+--until T, -n N, --reverse, --fields A,B, --no-header and -o tsv, csv or json.
 A wall time T is like '2026-11-15 14:23:44.5 +0100', in local time where it has
 no zone; a date, a time of day, now, or microseconds since 1970.
 Bytes that do not print show as \\xNN, a backslash shows as \\\\.
@@ -75,7 +75,7 @@ array of its bytes.
     };
 }
 
-const EACH: [(&str, &str); 9] = [
+const EACH: [(&str, &str); 10] = [
     (
         "list",
         concat!(
@@ -139,7 +139,22 @@ A line can be given back: find FILE --field \"NAME=$line\" (read it by read -r).
         "check",
         "\
 check FILE: whether the file can be read, and else why not, with status 3; then
-whether it takes appends, and else why not; and how much room is left in it
+whether it takes appends, and else why not; how much room is left in it; and
+where it has foreign objects, how many and of which types, up to 100 of them
+",
+    ),
+    (
+        "foreign",
+        "\
+foreign FILE: a line for each foreign object, in the order of the file: where it
+stands and its type, 8 to 255. Such a type is not known here; a newer systemd
+may have written it. Reading walks over these objects: nothing of them is in any
+entry, field or value that is printed.
+
+  -o FORM                table, tsv, csv, or json: one object a line
+  --no-header            without the line of headings
+
+Each is looked for from the start of the file: thousands of them take long.
 ",
     ),
     (

@@ -1,6 +1,7 @@
 //! Entries as JSON, one object a line, in the way of `journalctl -o json`: numbers are strings, a
 //! value that is no text is an array of its bytes, and several values of a field are an array of
-//! them. No value is left out for its length.
+//! them. No value is left out for its length. What is no entry has its cells as strings.
+use crate::columns::Cells;
 use crate::source::Row;
 use crate::text::{prints, shown};
 use crate::{ids, payload};
@@ -10,6 +11,18 @@ use std::io::{Result, Write};
 pub fn lines(rows: &[Row], fields: Option<&[Vec<u8>]>, out: &mut impl Write) -> Result<()> {
     for row in rows {
         writeln!(out, "{}", object(row, fields))?;
+    }
+    Ok(())
+}
+
+/// Each cell under its heading.
+pub fn cells<R>(columns: &[impl Cells<R>], rows: &[R], out: &mut impl Write) -> Result<()> {
+    for row in rows {
+        let pairs = columns.iter().filter_map(|column| {
+            let cell = column.cell(row)?;
+            Some(format!("{}:{}", string(&column.heading()), string(&cell)))
+        });
+        writeln!(out, "{{{}}}", Vec::from_iter(pairs).join(","))?;
     }
     Ok(())
 }

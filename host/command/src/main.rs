@@ -15,6 +15,7 @@ mod done;
 mod doubt;
 mod fault;
 mod files;
+mod foreign;
 mod form;
 mod fresh;
 mod help;
@@ -94,6 +95,7 @@ fn carry_out(command: Command) -> Result<(), Fault> {
         } => read::newest(files, &name, &which, form, &mut out)?,
         Command::Values { files, name } => read::values(files, &name, &mut out)?,
         Command::Check { file } => check::check(&file, &mut out)?,
+        Command::Foreign { file, form } => foreign::foreign(&file, &form, &mut out)?,
         // What these say is said by themselves: it is no answer that could be asked for again.
         Command::Write(write) => return writes::carry_out(write),
     }

@@ -87,6 +87,16 @@ pub fn values(rest: &[OsString]) -> Result<Command, Fault> {
     })
 }
 
+pub fn foreign(rest: &[OsString]) -> Result<Command, Fault> {
+    let words = Words::new(rest, &form::OTHER_NAMES)?;
+    let form = Form::new(&words)?;
+    let [file] = words.plain("foreign FILE")?;
+    Ok(Command::Foreign {
+        file: file.into(),
+        form,
+    })
+}
+
 /// A field as it is printed.
 fn payload(value: &OsStr) -> Result<Vec<u8>, String> {
     match typed(value.as_bytes())? {

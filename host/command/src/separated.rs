@@ -1,20 +1,29 @@
-//! Entries in columns for other programs: with a tab between them, or with a comma. Cells are in
-//! the form that `shown` prints, so that no tab and no newline is in them, and a line is an entry.
-use crate::columns::Column;
-use crate::source::Row;
+//! Rows in columns for other programs: with a tab between them, or with a comma. Cells are in the
+//! form that `shown` prints, so that no tab and no newline is in them, and a line is a row.
+use crate::columns::Cells;
 use std::io::{Result, Write};
 
-pub fn tsv(columns: &[Column], rows: &[Row], heading: bool, out: &mut impl Write) -> Result<()> {
+pub fn tsv<R>(
+    columns: &[impl Cells<R>],
+    rows: &[R],
+    heading: bool,
+    out: &mut impl Write,
+) -> Result<()> {
     lines(columns, rows, heading, "\t", |cell| cell, out)
 }
 
-pub fn csv(columns: &[Column], rows: &[Row], heading: bool, out: &mut impl Write) -> Result<()> {
+pub fn csv<R>(
+    columns: &[impl Cells<R>],
+    rows: &[R],
+    heading: bool,
+    out: &mut impl Write,
+) -> Result<()> {
     lines(columns, rows, heading, ",", quoted, out)
 }
 
-fn lines(
-    columns: &[Column],
-    rows: &[Row],
+fn lines<R>(
+    columns: &[impl Cells<R>],
+    rows: &[R],
     heading: bool,
     between: &str,
     set: fn(String) -> String,

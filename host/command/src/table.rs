@@ -1,26 +1,25 @@
-//! Entries in columns, and one entry in full.
-use crate::columns::Column;
+//! Rows in columns, and one entry in full.
+use crate::columns::Cells;
 use crate::source::Row;
 use crate::text::shown;
 use crate::{ids, times};
 use std::io::{Result, Write};
 
-/// How long a local time is, of the years from 1000 to 9999.
-const LOCAL: usize = 32;
-
-/// A heading, and a line for each entry.
-pub fn lines(columns: &[Column], rows: &[Row], heading: bool, out: &mut impl Write) -> Result<()> {
-    let cells = |row: &Row| Vec::from_iter(columns.iter().map(|column| column.cell(row)));
+/// A heading, and a line for each row.
+pub fn lines<R>(
+    columns: &[impl Cells<R>],
+    rows: &[R],
+    heading: bool,
+    out: &mut impl Write,
+) -> Result<()> {
+    let cells = |row: &R| Vec::from_iter(columns.iter().map(|column| column.cell(row)));
     let mut all: Vec<Vec<Option<String>>> = rows.iter().map(cells).collect();
     let headings = columns.iter().map(|column| Some(column.heading()));
     all.insert(0, headings.collect());
     let width = |place: usize| {
         let cells = all.iter().filter_map(|cells| cells[place].as_ref());
         let widest = cells.map(|cell| cell.chars().count()).max().unwrap_or(0);
-        match columns[place] {
-            Column::Local => widest.max(LOCAL),
-            _ => widest,
-        }
+        widest.max(columns[place].width())
     };
     let widths: Vec<usize> = (0..columns.len()).map(width).collect();
     for cells in all.iter().skip(usize::from(!heading)) {
@@ -30,7 +29,7 @@ pub fn lines(columns: &[Column], rows: &[Row], heading: bool, out: &mut impl Wri
 }
 
 /// One line, up to the last cell that has something.
-fn line(columns: &[Column], widths: &[usize], cells: &[Option<String>]) -> String {
+fn line<R>(columns: &[impl Cells<R>], widths: &[usize], cells: &[Option<String>]) -> String {
     let end = cells.iter().rposition(|cell| cell.is_some());
     let end = end.map_or(0, |place| place + 1);
     let set = |place: usize| {

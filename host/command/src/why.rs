@@ -1,8 +1,8 @@
 //! Why an append is refused: the one condition of the rule that applies, and the argument that it
 //! is about. The number is the library's; the words are worked out from the file and the request.
 use crate::append::Wish;
-use crate::text::shown;
 use crate::ids;
+use crate::text::shown;
 use wrapper::{Entry, Refusal, Request};
 
 /// An append, and the file that it is for.

@@ -50,6 +50,8 @@ pub mod kind {
     pub const FIELD_HASH_TABLE: u8 = 5;
     pub const ENTRY_ARRAY: u8 = 6;
     pub const TAG: u8 = 7;
+    /// "Types 8 and up are walked over."
+    pub const FIRST_FOREIGN: u8 = 8;
 }
 
 /// "1 DATA: 16 hash, 24 next_hash, 32 next_field, 40 entry_offset, 48 entry_array,

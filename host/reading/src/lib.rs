@@ -4,6 +4,7 @@ pub mod ask;
 pub mod carry;
 pub mod committed;
 pub mod fit;
+pub mod foreign;
 pub mod image;
 pub mod index;
 pub mod layout;

@@ -2,15 +2,16 @@
 //! same name without the prefix `journal_`, with slices as arguments and with answers that have
 //! types.
 //!
-//! Over them: `entries` and `stream` show all entries one after the other, `Fields` packs the fields of
-//! an append, `stores` is the list of its stores as long as it has to be, and `groups` tells where to
-//! sync while it is carried out.
+//! Over them: `entries` and `stream` show all entries one after the other, and `foreign_objects` all
+//! objects that are walked over; `Fields` packs the fields of an append, `stores` is the list of its
+//! stores as long as it has to be, and `groups` tells where to sync while it is carried out.
 //!
 //! `raw` has the calls with the numbers that the archive answers, and makes all `unsafe` calls into
 //! it.
 mod call;
 mod entries;
 mod fields;
+mod foreign;
 pub mod groups;
 mod lookups;
 mod merged;
@@ -25,6 +26,7 @@ mod turning;
 
 pub use entries::{entries, Entries};
 pub use fields::Fields;
+pub use foreign::{foreign, foreign_objects, Foreign, ForeignObjects};
 pub use lookups::{
     by_payload, by_realtime, by_seqnum, entry, item, open, stamps, value, Offset, Stamps,
 };

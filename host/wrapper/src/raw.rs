@@ -6,9 +6,11 @@
 //! SAFETY of each call: as `call` has it. `read` and `array` arguments are only read.
 #![allow(unsafe_code)]
 
+mod foreign;
 mod merged;
 
 use crate::call;
+pub use foreign::{foreign, Foreign};
 pub use merged::{merged, merged_item, page_merged, Merged, MergedPage, MergedPart};
 
 /// A part of the image by its place and length, both 0 for the empty part.

@@ -3,11 +3,13 @@
 //! commit store the answers are those from before the append, then those from after it.
 use std::collections::BTreeSet;
 
+use super::foreign::{answer, places};
 use super::lookups::{archive, read, read_stamps, Words};
 use super::plan::{number, Append};
 use crate::generator::questions::Arguments;
 use reading::ask::Question;
 use reading::carry::{carry_out, stores};
+use reading::foreign::Foreign;
 use reading::image::le64;
 use reading::layout::header;
 use reading::lookup::{open, Journal};
@@ -22,10 +24,11 @@ pub struct Cut {
     pub answers: u64,
 }
 
-/// One thing to ask: a lookup, or the stamps at an offset.
+/// One thing to ask: a lookup, the stamps at an offset, or the foreign object at a place.
 pub(super) enum Asked {
     Lookup(Question),
     Stamps(u64),
+    Foreign(u64),
 }
 
 /// An answer, and the bytes that it shows.
@@ -33,6 +36,7 @@ pub(super) enum Asked {
 pub(super) enum Said<'a> {
     Lookup(Words, &'a [u8]),
     Stamps(Stamps),
+    Foreign(Foreign),
 }
 
 /// What the archive says; none where it shows a part outside the image.
@@ -50,6 +54,7 @@ pub(super) fn said<'a>(image: &'a [u8], asked: &Asked) -> Option<Said<'a>> {
             Some(Said::Lookup(words, bytes))
         }
         Asked::Stamps(offset) => Some(Said::Stamps(raw::stamps(image, *offset))),
+        Asked::Foreign(place) => Some(Said::Foreign(answer(image, *place))),
     }
 }
 
@@ -61,6 +66,7 @@ pub(super) fn all<'a>(journal: &Journal<'a>, asked: &[Asked]) -> Result<Vec<Said
         let same = match (asked, &said) {
             (Asked::Lookup(question), Said::Lookup(words, _)) => *words == read(journal, question),
             (Asked::Stamps(at), Said::Stamps(stamps)) => *stamps == read_stamps(journal, *at),
+            (Asked::Foreign(place), Said::Foreign(it)) => *it == journal.foreign(*place),
             _ => false,
         };
         if !same {
@@ -80,10 +86,12 @@ pub(super) fn questions(before: &Journal, after: &Journal) -> Vec<Asked> {
     questions.extend(arguments.questions(before));
     questions.extend(arguments.questions(after));
     let stamps = arguments.offsets.into_iter().map(Asked::Stamps);
+    let foreign = places(before.foreign_objects().len() as u64).map(Asked::Foreign);
     questions
         .into_iter()
         .map(Asked::Lookup)
         .chain(stamps)
+        .chain(foreign)
         .collect()
 }
 

@@ -1,6 +1,7 @@
 //! The archive compared with the reading, for tests and long runs. What differs comes back as a
 //! text.
 pub mod cuts;
+pub mod foreign;
 pub mod lent;
 pub mod lookups;
 pub mod merged;

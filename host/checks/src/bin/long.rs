@@ -1,11 +1,12 @@
 //! The archive against the independent reading, as often as asked:
 //! `cargo run --offline --release -p checks -- 1000000` opens so many images of every kind,
 //! `.. -- plan 1000000` works out so many appends, `.. -- cuts 1000` cuts so many appends everywhere
-//! and asks every lookup each time, and `.. -- merged 10000` shows so many pairs of files as one
-//! stream. A second number is the first seed. It ends with status 1 at the first difference, and leaves
-//! the image in a file, or the two images one after the other.
+//! and asks every lookup each time, `.. -- merged 10000` shows so many pairs of files as one stream,
+//! and `.. -- foreign 100000` names the foreign objects of so many images. A second number is the
+//! first seed. It ends with status 1 at the first difference, and leaves the image in a file, or the
+//! two images one after the other.
 use checks::against::plan::{number, Append};
-use checks::against::{cuts, merged};
+use checks::against::{cuts, foreign, merged};
 use checks::generator::dice::{between, once_in};
 use checks::generator::{any::any, appends, pairs::pair};
 use checks::random::Random;
@@ -23,6 +24,7 @@ fn main() {
             Some("plan") => ("appends", 50_000, plan),
             Some("cuts") => ("appends at every cut", 100, cut),
             Some("merged") => ("pairs of files", 10_000, stream),
+            Some("foreign") => ("images by their foreign objects", 50_000, named),
             _ => ("images", 50_000, open),
         };
     if what != "images" {
@@ -66,6 +68,13 @@ fn open(random: &mut Random) -> Compared {
     } else {
         Err((format!("{answer}, and not {expected}"), image))
     }
+}
+
+fn named(random: &mut Random) -> Compared {
+    let image = any(random);
+    foreign::compare(&image, random.word() >> 8)
+        .map(|answer| answer.err().unwrap_or(0))
+        .map_err(|difference| (difference, image))
 }
 
 /// With the case's own list, and with lists of several lengths.

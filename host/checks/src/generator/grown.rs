@@ -1,5 +1,6 @@
 //! Images grown from a new file by appends.
 use super::dice::{between, once_in, pick};
+use super::foreign;
 use super::requests::fitting;
 use crate::random::Random;
 use reading::carry::carry_out;
@@ -48,7 +49,7 @@ pub fn new(random: &mut Random) -> (u64, NewFile) {
     (length, new)
 }
 
-/// A new file with up to so many appends carried out.
+/// A new file with up to so many appends carried out, and now and then a foreign object between them.
 pub fn grown(random: &mut Random, appends: u64) -> Vec<u8> {
     let mut image = loop {
         let (length, new) = new(random);
@@ -59,6 +60,10 @@ pub fn grown(random: &mut Random, appends: u64) -> Vec<u8> {
     };
     let mut list = vec![0; 16 * 3000];
     for _ in 0..between(random, 0, appends) {
+        if once_in(random, 6) {
+            let (kind, size) = foreign::any(random);
+            foreign::put(&mut image, kind, size);
+        }
         let asked = fitting(random, &image);
         let answer = append(&image, &asked.request(), &mut list);
         assert_eq!(

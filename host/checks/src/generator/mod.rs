@@ -6,6 +6,7 @@ pub mod collide;
 pub mod dice;
 pub mod draft;
 mod facts;
+pub mod foreign;
 pub mod frame;
 pub mod full;
 pub mod good;

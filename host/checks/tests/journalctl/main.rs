@@ -11,6 +11,7 @@ mod damaged;
 mod entries;
 mod export;
 mod file;
+mod foreign;
 mod lookups;
 mod payloads;
 mod set_clock;

@@ -7,6 +7,7 @@ mod cuts;
 mod drafted;
 mod examples;
 mod fields;
+mod foreign;
 mod made;
 mod many;
 mod order;

@@ -4,6 +4,7 @@ mod appends;
 mod corpus;
 mod cuts;
 mod examples;
+mod foreign;
 mod forms;
 mod freedoms;
 mod index;

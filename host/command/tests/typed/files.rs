@@ -7,10 +7,11 @@ use std::os::unix::process::CommandExt;
 use std::path::Path;
 use std::process::Command;
 
-/// What `list`, `check` and `append` say; it is the same.
+/// What `list`, `check`, `foreign` and `append` say; it is the same.
 fn all_say(path: &Path) -> String {
     let words = asked("list", path).failed_with(path);
     assert_eq!(asked("check", path).failed_with(path), words);
+    assert_eq!(asked("foreign", path).failed_with(path), words);
     assert_eq!(append(path, 1, &["A=1"]).failed_with(path), words);
     words
 }

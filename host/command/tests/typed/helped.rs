@@ -1,8 +1,8 @@
 //! Help, of all and of each command, and the version.
 use crate::person::{folder, made, program, said};
 
-const COMMANDS: [&str; 9] = [
-    "list", "show", "find", "newest", "values", "check", "new", "append", "copy",
+const COMMANDS: [&str; 10] = [
+    "list", "show", "find", "newest", "values", "check", "foreign", "new", "append", "copy",
 ];
 
 fn text(words: &[&str]) -> String {
@@ -99,7 +99,7 @@ fn options() {
             }
         }
     }
-    assert_eq!(taken.len(), 7 + 10 + 7 + 8 + 8 + 2, "{taken:?}");
+    assert_eq!(taken.len(), 7 + 10 + 7 + 2 + 8 + 8 + 2, "{taken:?}");
 }
 
 /// After `--` it is a name.

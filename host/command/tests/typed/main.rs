@@ -7,6 +7,7 @@ mod cut;
 mod doubtful;
 mod expected;
 mod files;
+mod foreign;
 mod forms;
 mod given_back;
 mod helped;

@@ -44,7 +44,7 @@ fn a_pipe_that_is_closed() {
 #[test]
 fn an_answer_that_can_not_be_written() {
     let path = long("full-output");
-    for command in ["list", "check"] {
+    for command in ["list", "check", "foreign"] {
         let full = File::options().write(true).open("/dev/full");
         let full = full.expect("it is there");
         let answer = said(program().arg(command).arg(&path).stdout(full));

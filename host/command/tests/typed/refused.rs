@@ -15,6 +15,7 @@ fn all_refuse(path: &Path) -> u64 {
     let number = asked("check", path).refused(path);
     let others = [
         asked("list", path),
+        asked("foreign", path),
         typed("show", path, &["1"]),
         typed("find", path, &["--seqnum", "1"]),
         typed("find", path, &["--time", "1"]),

@@ -77,6 +77,14 @@ fn wrong_words() {
         ),
         (&["check"], "the command is check FILE ("),
         (&["check", file, file], "the command is check FILE ("),
+        (&["foreign"], "the command is foreign FILE ("),
+        (&["foreign", file, file], "the command is foreign FILE ("),
+        (&["foreign", file, "--fields", "A"], "no option --fields"),
+        (&["foreign", file, "-n", "1"], "no option -n"),
+        (
+            &["foreign", file, "-o", "xml"],
+            "-o xml: it is table, tsv, csv or json (",
+        ),
         (&["new"], "the command is new FILE and options"),
         (
             &["new", other, other],

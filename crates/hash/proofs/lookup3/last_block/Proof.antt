@@ -1,6 +1,5 @@
 -- `hash::lookup3::last_block` meets its contract. Each step is what its callee ensures.
 use Rattle.format.specs.Lookup3.{absorb}
-use mathlib.Core.Path.{refl}
 use borrow.Author.Needs.{needs}
 use Rattle.hash.proofs.lookup3.last_block.Statement.{statement}
 use Rattle.hash.proofs.lookup3.last_block.Tie as tie
