@@ -2,3 +2,4 @@
 pub mod Examples
 pub mod Foreign
 pub mod Streams
+pub mod Syncs

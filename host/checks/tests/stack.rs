@@ -23,6 +23,7 @@ fn all_calls(keyed: bool) {
         let Planned::Stores { count } = wrapper::plan(&image, &request, &mut list) else {
             panic!("the append is taken");
         };
+        assert_eq!(wrapper::sync_points(&list[..16 * count as usize]).len(), 6);
         assert_eq!(wrapper::carry_out(&mut image, &list, count), Ok(()));
     }
     assert_eq!(wrapper::open(&image), Ok(()));

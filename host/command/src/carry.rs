@@ -1,11 +1,11 @@
-//! The stores of an append on the file itself: they are carried out on the mapped file group by
-//! group, with a sync after each, as the page for those who write a host has it.
+//! The stores of an append on the file itself: they are carried out on the mapped file, with a sync
+//! wherever the library says, as the page for those who write a host has it.
 use crate::fault::{said, Fault};
 use crate::signals;
 use crate::system::{self, Mapped};
 use std::fs::File;
 use std::path::Path;
-use wrapper::groups::syncs;
+use wrapper::between_syncs;
 
 /// The file as it was read, to be written. Its blocks come first: a store to a mapped hole on a full
 /// disk would end the program in the middle of the append.
@@ -37,31 +37,22 @@ pub fn has_length(path: &Path, file: &File, image: &[u8]) -> Result<(), Fault> {
     }
 }
 
-/// The last group before each sync.
-const GROUPS: [u64; 6] = [2, 3, 4, 6, 7, 8];
-
-/// Carries the stores out; the number of syncs. Where there is no store there is no sync.
-pub fn out(path: &Path, mapped: &mut Mapped, list: &[u8]) -> Result<u64, Fault> {
-    let (mut start, mut count) = (0, 0);
-    for (end, number) in syncs(list).into_iter().zip(GROUPS) {
-        if end == start {
-            continue;
-        }
-        let group = &list[16 * start..16 * end];
-        wrapper::carry_out(mapped.bytes(), group, (end - start) as u64)
+/// Carries the stores out; the number of syncs.
+pub fn out(path: &Path, mapped: &mut Mapped, list: &[u8]) -> Result<usize, Fault> {
+    let parts = between_syncs(list);
+    for (part, n) in parts.iter().zip(1..) {
+        wrapper::carry_out(mapped.bytes(), part, part.len() as u64 / 16)
             .map_err(|refusal| Fault::refused(path, refusal))?;
         mapped.sync().map_err(|error| {
-            let said = said(&error);
-            let entry = match number {
-                7 => "; the entry may be on the disk or not",
-                8 => "; the entry is on the disk",
+            // The last part is state 0, the one before it the commit store.
+            let entry = match parts.len() - n {
+                0 => "; the entry is on the disk",
+                1 => "; the entry may be on the disk or not",
                 _ => "",
             };
-            let group = format!("group {number} of 8 can't be synced: {said}");
-            Fault::of(path, format!("{group}; the append stops there{entry}"))
+            let sync = format!("sync {n} of {} failed: {}", parts.len(), said(&error));
+            Fault::of(path, format!("{sync}; the append stops there{entry}"))
         })?;
-        start = end;
-        count += 1;
     }
-    Ok(count)
+    Ok(parts.len())
 }

@@ -4,7 +4,7 @@
 //!
 //! Over them: `entries` and `stream` show all entries one after the other, and `foreign_objects` all
 //! objects that are walked over; `Fields` packs the fields of an append, `stores` is the list of its
-//! stores as long as it has to be, and `groups` tells where to sync while it is carried out.
+//! stores as long as it has to be, and `between_syncs` has it in the parts between two syncs.
 //!
 //! `raw` has the calls with the numbers that the archive answers, and makes all `unsafe` calls into
 //! it.
@@ -12,7 +12,6 @@ mod call;
 mod entries;
 mod fields;
 mod foreign;
-pub mod groups;
 mod lookups;
 mod merged;
 mod pages;
@@ -22,6 +21,7 @@ mod refusal;
 mod rows;
 mod stores;
 mod stream;
+mod syncs;
 mod turning;
 
 pub use entries::{entries, Entries};
@@ -40,6 +40,7 @@ pub use raw::{hash_lookup3, hash_siphash24, Request};
 pub use refusal::Refusal;
 pub use stores::{carry_out, new, plan, stores, Planned};
 pub use stream::{stream, Stream};
+pub use syncs::{between_syncs, sync_points};
 
 /// An image has at most so many bytes: 2.
 pub const LONGEST_IMAGE: u64 = 8_388_608;

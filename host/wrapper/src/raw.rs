@@ -178,3 +178,11 @@ pub fn plan(image: &[u8], request: &Request, stores: &mut [u8]) -> u64 {
         ) -> u64)
     }
 }
+
+/// The number of sync points in the list, which `plan` wrote and which has no bytes after its stores.
+/// Each is a number of stores, in eight bytes at the front of `points`, as many as there is room for;
+/// after them `points` is as it was.
+#[inline]
+pub fn sync_points(stores: &[u8], points: &mut [u8]) -> u64 {
+    unsafe { call!(journal_sync_points(read stores, write points) -> u64) }
+}

@@ -7,4 +7,5 @@ pub mod lookups;
 pub mod merged;
 pub mod orders;
 pub mod plan;
+pub mod syncs;
 pub mod trial;

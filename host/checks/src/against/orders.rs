@@ -1,18 +1,37 @@
-//! The crash states of a disk where a host syncs as `groups::syncs` has it and no more often: all
-//! stores up to one sync, and of those up to the next one any, in any order.
+//! The crash states of a disk where a host syncs at the archive's points and no more often: all stores
+//! up to one point, and of those up to the next one any, in any order.
 use super::cuts::{all, questions, said};
 use super::plan::{number, Append};
 use crate::generator::dice::{shuffle, some_of};
 use crate::random::Random;
+use reading::carry::{stores, Store};
+use reading::layout::header;
 use reading::lookup::open;
-use reading::plan;
 use reading::request::Request;
-use wrapper::groups::{groups, syncs};
 use wrapper::raw::{self, carry_out};
+use wrapper::sync_points;
 
-/// Some of the stores before each sync, so often for each, on all before them: the image opens, and
-/// one question in `step` is answered as before the append, or from group 7 on as after it. The
-/// number of images, or the refusal where the append is not taken.
+/// Every choice of some of the stores, where there are at most so many; else so many by chance.
+fn choices<'a>(random: &mut Random, stores: &[&'a [u8]], times: usize) -> Vec<Vec<&'a [u8]>> {
+    let every = match stores.len() {
+        count @ 0..20 => 1 << count,
+        _ => usize::MAX,
+    };
+    let chosen = |set: usize| {
+        let in_it = |&n: &usize| set >> n & 1 == 1;
+        let places = (0..stores.len()).filter(in_it);
+        places.map(|n| stores[n]).collect()
+    };
+    match every <= times {
+        true => (0..every).map(chosen).collect(),
+        false => (0..times).map(|_| some_of(random, stores)).collect(),
+    }
+}
+
+/// Some of the stores up to each sync, `times` choices for each, on all before them: the image opens,
+/// and one question in `step` is answered as before the append, or with the commit store as after it.
+/// The whole list carried out once more makes the image after the append. The number of images, or the
+/// refusal where the append is not taken.
 pub fn orders(
     image: &[u8],
     request: Request,
@@ -25,24 +44,14 @@ pub fn orders(
     if planned.refusal().is_some() {
         return Ok(Err(number(&planned)));
     }
-    let ends = groups(&list);
-    let read = plan::groups(image, &request).expect("taken");
-    let mut count = 0;
-    for (n, (group, end)) in read.iter().zip(ends).enumerate() {
-        count += group.len();
-        if count != end {
-            return Err(format!("group {} ends at {count}, and not {end}", n + 1));
-        }
-    }
-    let carried = |stores: &[u8]| {
+    let carried = |image: &[u8], stores: &[u8]| {
         let mut image = image.to_vec();
-        let k = stores.len() as u64 / 16;
-        match carry_out(&mut image, stores, k) {
+        match carry_out(&mut image, stores, stores.len() as u64 / 16) {
             0 => Ok(image),
             number => Err(format!("carrying out is refused {number}")),
         }
     };
-    let after = carried(&list)?;
+    let after = carried(image, &list)?;
     let refused = |number: u64| format!("the reading refuses {number}");
     let (old, new) = (
         open(image).map_err(refused)?,
@@ -52,16 +61,16 @@ pub fn orders(
     let (old, new) = (all(&old, &asked)?, all(&new, &asked)?);
     let mut tried = 0;
     let mut start = 0;
-    for end in syncs(&list) {
-        let name = format!("some stores from {start} to {end} of {}", ends[7]);
-        for _ in 0..times {
-            let stores: Vec<&[u8]> = list[16 * start..16 * end].chunks(16).collect();
-            let mut some = some_of(random, &stores);
+    for point in sync_points(&list) {
+        let name = format!("some stores from {start} to {point} of {need}");
+        let up_to_it: Vec<&[u8]> = list[16 * start..16 * point].chunks(16).collect();
+        for mut some in choices(random, &up_to_it, times) {
             shuffle(random, &mut some);
-            // Group 7 is one store, and it commits.
-            let committed = start == ends[6] || start == ends[5] && !some.is_empty();
+            let arrived = [&list[..16 * start], &some.concat()].concat();
+            let commits = |it: &Store| it.offset == header::N_ENTRIES;
+            let committed = stores(&arrived).iter().any(commits);
             let expected = if committed { &new } else { &old };
-            let image = carried(&[&list[..16 * start], &some.concat()].concat())?;
+            let image = carried(image, &arrived)?;
             if raw::open(&image) != 0 {
                 return Err(format!("{name}: refused"));
             }
@@ -70,9 +79,12 @@ pub fn orders(
                     return Err(format!("{name}: {:?}", expected[at]));
                 }
             }
+            if carried(&image, &list)? != after {
+                return Err(format!("{name}, and then all of it"));
+            }
             tried += 1;
         }
-        start = end;
+        start = point;
     }
     Ok(Ok(tried))
 }

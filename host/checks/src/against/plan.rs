@@ -1,9 +1,10 @@
-//! An append put to the archive and to the reading: the answer, every store, and every other byte
-//! that was lent.
+//! An append put to the archive and to the reading: the answer, every store, every other byte that
+//! was lent, and the sync points.
 use super::lent::Lent;
+use super::syncs;
 use crate::random::Random;
 use reading::carry::{stores, Store};
-use reading::plan::{plan, write};
+use reading::plan::{groups, sync_points, write};
 use reading::refusal::Clause;
 use reading::request::Request;
 use wrapper::{Planned, Refusal};
@@ -13,15 +14,20 @@ pub struct Append<'a> {
     image: &'a [u8],
     request: Request<'a>,
     pub read: Result<Vec<Store>, Vec<Clause>>,
+    /// Where to sync, if it is taken.
+    pub points: Vec<usize>,
 }
 
 impl<'a> Append<'a> {
     pub fn new(image: &'a [u8], request: Request<'a>) -> Append<'a> {
-        let read = plan(image, &request);
+        let groups = groups(image, &request);
+        let points = groups.as_deref().map_or(Vec::new(), sync_points);
+        let read = groups.map(|groups| groups.concat());
         Append {
             image,
             request,
             read,
+            points,
         }
     }
 
@@ -78,6 +84,9 @@ impl<'a> Append<'a> {
             if lent.after() != Some(before) {
                 return Err(format!("a byte of the {what} or around it changed"));
             }
+        }
+        if let Planned::Stores { count } = planned {
+            syncs::put_all(&list[..16 * count as usize], &self.points, tried)?;
         }
         Ok((planned, list.to_vec()))
     }

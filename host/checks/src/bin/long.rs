@@ -1,10 +1,10 @@
 //! The archive against the independent reading, as often as asked:
 //! `cargo run --offline --release -p checks -- 1000000` opens so many images of every kind,
-//! `.. -- plan 1000000` works out so many appends, `.. -- cuts 1000` cuts so many appends everywhere
-//! and asks every lookup each time, `.. -- merged 10000` shows so many pairs of files as one stream,
-//! and `.. -- foreign 100000` names the foreign objects of so many images. A second number is the
-//! first seed. It ends with status 1 at the first difference, and leaves the image in a file, or the
-//! two images one after the other.
+//! `.. -- plan 1000000` works out so many appends and where to sync them, `.. -- cuts 1000` cuts so
+//! many appends everywhere and asks every lookup each time, `.. -- merged 10000` shows so many pairs
+//! of files as one stream, and `.. -- foreign 100000` names the foreign objects of so many images. A
+//! second number is the first seed. It ends with status 1 at the first difference, and leaves the
+//! image in a file, or the two images one after the other.
 use checks::against::plan::{number, Append};
 use checks::against::{cuts, foreign, merged};
 use checks::generator::dice::{between, once_in};

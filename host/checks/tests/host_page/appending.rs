@@ -4,8 +4,7 @@ use checks::corpus;
 use std::path::{Path, PathBuf};
 use std::process::{Command, Output};
 use std::time::{SystemTime, UNIX_EPOCH};
-use wrapper::groups::syncs;
-use wrapper::{carry_out, stores, Fields, Offset, Request};
+use wrapper::{carry_out, stores, sync_points, Fields, Offset, Request};
 
 /// In the place of the system's sync: ends the program at the n-th one.
 const SYNC: &str = r#"
@@ -118,13 +117,13 @@ fn the_program_that_appends() {
     assert_eq!(String::from_utf8_lossy(&output.stdout), words);
     assert_eq!(output.status.code(), Some(0));
 
-    let ends = syncs(&list);
-    assert!(ends.windows(2).all(|two| two[0] < two[1]), "{ends:?}");
-    for (end, n) in ends.into_iter().zip(1..) {
+    let points = sync_points(&list);
+    assert_eq!(points.len(), 6);
+    for (point, n) in points.into_iter().zip(1..) {
         std::fs::write(&path, &before).expect("a file");
         assert_eq!(typed(&program, &path, n).status.code(), None, "at sync {n}");
         let image = std::fs::read(&path).expect("the file");
-        assert!(image == cut(&image, end), "at sync {n}");
+        assert!(image == cut(&image, point), "at sync {n}");
     }
     assert_eq!(typed(&program, &path, 7).status.code(), Some(0));
 }

@@ -1,7 +1,7 @@
 //! Every cut of an append: journalctl shows the entries from before it, and from the commit store on
 //! also the new one.
 use checks::random::Random;
-use wrapper::groups::groups;
+use wrapper::sync_points;
 
 use crate::check::{exported, shown};
 use crate::entries::{grown, logged};
@@ -26,7 +26,9 @@ fn every_cut() {
         let (old, new) = (entries(&image), entries(&whole));
         assert_eq!((old.len() as u64, new.len() as u64), (before, before + 1));
 
-        let [_, objects, .., commit, count] = groups(&list);
+        let [objects, .., commit, count] = sync_points(&list)[..] else {
+            panic!("syncs behind the objects, the commit store and the last one");
+        };
         for k in 0..=count {
             let mut cut = image.clone();
             assert_eq!(wrapper::carry_out(&mut cut, &list, k as u64), Ok(()));

@@ -9,7 +9,6 @@ use checks::random::Random;
 use reading::layout::header;
 use reading::request::Request;
 use wrapper::carry_out;
-use wrapper::groups::groups;
 
 use crate::made::made;
 
@@ -74,7 +73,7 @@ fn another_append_after_a_cut() {
     let fields = first();
     let ask = request(&fields, 5, 0, 0);
     let (_, list) = put(&image, ask, 72);
-    let ends = groups(&list);
+    let objects = Append::new(&image, ask).points[0];
     for k in 0..=72 {
         let mut image = image.clone();
         assert_eq!(carry_out(&mut image, &list, k as u64), Ok(()));
@@ -82,7 +81,7 @@ fn another_append_after_a_cut() {
         let number = if k == 0 || k == 72 { 0 } else { 13 };
         assert_eq!(put(&image, next, 72).0, number, "a cut at {k}");
         image[header::STATE as usize] = 0;
-        let number = if k <= ends[1] || k >= ends[6] { 0 } else { 14 };
+        let number = if k <= objects || k >= 71 { 0 } else { 14 };
         assert_eq!(put(&image, next, 72).0, number, "a cut at {k}, state 0");
     }
 }
@@ -140,4 +139,30 @@ fn any_stores_between_syncs() {
     }
     println!("any stores between syncs: {appends} appends, {images} images");
     assert!(appends > 80);
+}
+
+/// The worked examples, with every choice of the stores between two syncs behind the objects.
+#[test]
+fn every_choice_between_syncs() {
+    let random = &mut Random::new(31_000);
+    let mut images = 0;
+    for keyed in [false, true] {
+        let mut image = made(1024, (1, 1), keyed);
+        let (first, second) = (first(), second());
+        for ask in [request(&first, 1, 0, 0), request(&second, 2, 0, 0)] {
+            let tried = orders(&image, ask, (300, 5), random);
+            images += tried
+                .unwrap_or_else(|difference| panic!("{difference}"))
+                .expect("taken");
+            image = cuts(&image, ask, 50, 0)
+                .expect("as before")
+                .expect("taken")
+                .after;
+        }
+    }
+    println!("every choice between syncs: {images} images");
+    // 300 of the objects, then five counters, links, counts and facts, commit store, state.
+    let first = 300 + 32 + 32 + 128 + 2 + 2;
+    let second = 300 + 32 + 4 + 64 + 2 + 2;
+    assert_eq!(images, 2 * (first + second));
 }

@@ -10,20 +10,13 @@ use checks::random::Random;
 use reading::image::{le64, Image, Object};
 use reading::layout::{header, kind::FIRST_FOREIGN};
 use reading::request::Request;
-use wrapper::groups::syncs;
-use wrapper::{carry_out, Foreign};
+use wrapper::{carry_out, sync_points, Foreign};
 
-use crate::made::{made, Tried};
+use crate::made::{list, made, Tried};
 
 fn named(image: &[u8]) -> Vec<Foreign> {
     let objects = wrapper::foreign_objects(image).expect("it opens");
     objects.collect()
-}
-
-/// A list of these stores.
-fn list(stores: &[(u64, u64)]) -> Vec<u8> {
-    let words = stores.iter().flat_map(|&(offset, value)| [offset, value]);
-    words.flat_map(u64::to_le_bytes).collect()
 }
 
 /// The image with these stores carried out by the archive.
@@ -47,7 +40,7 @@ fn cut_everywhere(tried: &mut Tried, image: &[u8], request: Request) -> (Vec<u8>
     }
     let random = &mut Random::new(stores.len() as u64);
     let mut start = 0;
-    for end in syncs(&list(&stores)) {
+    for end in sync_points(&list(&stores)) {
         for _ in 0..3 {
             let mut some = some_of(random, &stores[start..end]);
             shuffle(random, &mut some);

@@ -26,6 +26,12 @@ pub fn fields(payloads: &[Vec<u8>]) -> Vec<u8> {
     packed(&payloads.iter().map(|it| &it[..]).collect::<Vec<_>>())
 }
 
+/// A list of these stores.
+pub fn list(stores: &[(u64, u64)]) -> Vec<u8> {
+    let words = stores.iter().flat_map(|&(offset, value)| [offset, value]);
+    words.flat_map(u64::to_le_bytes).collect()
+}
+
 /// How many appends were tried, by the answer: the refusal, or 0.
 #[derive(Default)]
 pub struct Tried(pub [u64; 20]);

@@ -1,6 +1,7 @@
 //! The archive's `journal_plan` against the independent reading: the answer, every store of the list,
 //! and every other byte that was lent. And every cut of appends that the archive works out and
 //! carries out.
+mod again;
 mod arrays;
 mod corpus;
 mod cuts;
@@ -8,9 +9,13 @@ mod drafted;
 mod examples;
 mod fields;
 mod foreign;
+mod lists;
 mod made;
 mod many;
 mod order;
 mod places;
+mod redo;
 mod refusals;
+mod rule;
 mod set_clock;
+mod syncs;

@@ -1,11 +1,11 @@
-//! The stores of an append word by word, the sizes of arrays, and carrying out.
+//! The stores of an append word by word, its sync points, the sizes of arrays, and carrying out.
 use checks::generator::full::full;
 use checks::generator::worked::{appended, first, made, request, second, LAST};
-use reading::carry::carry_out;
+use reading::carry::{carry_out, Store};
 use reading::image::Image;
 use reading::layout::kind;
 use reading::lookup3::hashlittle2;
-use reading::plan::plan;
+use reading::plan::{plan, sync_points};
 use reading::request::{packed, Request};
 
 #[test]
@@ -80,6 +80,23 @@ fn the_stores_of_the_second_append() {
             .filter(|store| store.0 != 712)
             .collect::<Vec<_>>()
     );
+}
+
+/// Behind groups 1 and 2, 3, 4, 5 and 6, 7, 8; a group without stores has no sync of its own.
+#[test]
+fn sync_points_of_groups() {
+    for (lengths, points) in [
+        ([1, 52, 5, 5, 0, 7, 1, 1], vec![53, 58, 63, 70, 71, 72]),
+        ([1, 17, 5, 2, 1, 5, 1, 1], vec![18, 23, 25, 31, 32, 33]),
+        ([1, 17, 5, 0, 1, 5, 1, 1], vec![18, 23, 29, 30, 31]),
+    ] {
+        let store = Store {
+            offset: 16,
+            value: 0,
+        };
+        let groups = lengths.map(|length| vec![store; length]);
+        assert_eq!(sync_points(&groups), points);
+    }
 }
 
 fn array_items(image: &[u8]) -> Vec<u64> {

@@ -1,10 +1,11 @@
 //! An append that is ended at each of its syncs, one whose sync fails, one on a full disk, and one to a
 //! file that another program writes at the same time.
-use crate::expected::stores;
+use crate::expected::{expected, groups, stores};
 use crate::person::{
     append, asked, bytes, checked, file, folder, made, options, program, said, Said,
 };
 use reading::carry::carry_out;
+use reading::plan::sync_points;
 use std::path::{Path, PathBuf};
 use std::process::Command;
 use std::sync::OnceLock;
@@ -43,20 +44,19 @@ pub fn course(folder: &Path) -> (Vec<u8>, Vec<Vec<u8>>) {
     append(&path, 1, &["A=1"]).done();
     append(&path, 2, &["A=1"]).done();
     let before = bytes(&path);
-    let list = stores(&before, 3, &[b"A=1", b"B=2"]);
-    let ends = wrapper::groups::syncs(&list);
-    let cuts = ends.iter().map(|&end| {
+    let fields: [&[u8]; 2] = [b"A=1", b"B=2"];
+    let list = stores(&before, 3, &fields);
+    let points = sync_points(&groups(&before, 3, &fields));
+    let cuts = points.iter().map(|&point| {
         let mut image = before.clone();
-        assert_eq!(carry_out(&mut image, &list, end as u64), 0);
+        assert_eq!(carry_out(&mut image, &list, point as u64), 0);
         image
     });
     let cuts = cuts.collect();
-    // There are stores before each sync here.
-    assert!(ends.windows(2).all(|two| two[0] < two[1]), "{ends:?}");
     (before, cuts)
 }
 
-/// Ended at its n-th sync, the file has the stores of the groups up to there and no others. It opens, it
+/// Ended at its n-th sync, the file has the stores up to there and no others. It opens, it
 /// lists as before or after, and it takes no append but where only the last sync was missing.
 #[test]
 fn ended_at_every_sync() {
@@ -97,20 +97,44 @@ fn ended_at_every_sync() {
 fn failing_at_every_sync() {
     let folder = folder("fail");
     let (before, cuts) = course(&folder);
-    let groups = [2, 3, 4, 6, 7, 8];
-    for ((cut, group), n) in cuts.iter().zip(groups).zip(1..) {
+    for (cut, n) in cuts.iter().zip(1..) {
         let path = file(&folder, "fail.journal", &before);
         let words = told(&path, "FAIL_AT", n).failed_with(&path);
-        let start = format!("group {group} of 8 can't be synced: Input/output error");
+        let start = format!("sync {n} of 6 failed: Input/output error");
         assert!(words.starts_with(&start), "{words}");
-        let end = match group {
-            7 => "; the append stops there; the entry may be on the disk or not",
-            8 => "; the append stops there; the entry is on the disk",
+        let end = match n {
+            5 => "; the append stops there; the entry may be on the disk or not",
+            6 => "; the append stops there; the entry is on the disk",
             _ => "; the append stops there",
         };
         assert!(words.ends_with(end), "{words}");
         assert!(bytes(&path) == *cut, "at sync {n}");
     }
+}
+
+/// Where the spare items hold the coming offset already, group 4 is empty and has no sync.
+#[test]
+fn five_syncs() {
+    let folder = folder("five");
+    let (mut before, _) = course(&folder);
+    let links = groups(&before, 3, &[b"A=1"]).swap_remove(3);
+    assert_eq!(links.len(), 2);
+    for store in links {
+        before[store.offset as usize..][..8].copy_from_slice(&store.value.to_le_bytes());
+    }
+    let path = file(&folder, "five.journal", &before);
+    let failing_at = |n: usize| {
+        let mut command = program();
+        preloaded(&mut command, "FAIL_AT", n);
+        command.arg("append").arg(&path).args(options(3));
+        said(command.arg("A=1"))
+    };
+    let words = failing_at(4).failed_with(&path);
+    assert!(words.starts_with("sync 4 of 5 failed: "), "{words}");
+    assert!(words.ends_with("on the disk or not"), "{words}");
+    file(&folder, "five.journal", &before);
+    assert!(failing_at(6).done().ends_with(", 5 syncs\n"));
+    assert!(bytes(&path) == expected(&before, 3, &[b"A=1"]).0);
 }
 
 #[test]

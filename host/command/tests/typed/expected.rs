@@ -1,10 +1,10 @@
 //! What an append is to do to a file, by the independent reading.
-use reading::carry::carry_out;
+use reading::carry::{carry_out, Store};
 use reading::plan;
 use reading::request::{packed, Request};
 
-/// The stores of the append that `person::append` asks for, by the reading.
-pub fn stores(image: &[u8], seqnum: u64, payloads: &[&[u8]]) -> Vec<u8> {
+/// The groups of stores of the append that `person::append` asks for, by the reading.
+pub fn groups(image: &[u8], seqnum: u64, payloads: &[&[u8]]) -> Vec<Vec<Store>> {
     let request = Request {
         machine_id: [2; 16],
         boot_id: [5; 16],
@@ -13,10 +13,14 @@ pub fn stores(image: &[u8], seqnum: u64, payloads: &[&[u8]]) -> Vec<u8> {
         monotonic: 50 + seqnum,
         fields: &packed(payloads),
     };
-    let mut list = vec![0; 16 * 40_000];
-    let answer = plan::append(image, &request, &mut list);
-    assert_eq!(answer.refusal, 0);
-    list.truncate(16 * answer.stores as usize);
+    plan::groups(image, &request).expect("taken")
+}
+
+/// All of its stores as a list.
+pub fn stores(image: &[u8], seqnum: u64, payloads: &[&[u8]]) -> Vec<u8> {
+    let stores = groups(image, seqnum, payloads).concat();
+    let mut list = vec![0; 16 * stores.len()];
+    plan::write(&Ok(stores), &mut list);
     list
 }
 

@@ -1,0 +1,24 @@
+-- Proofs that a new file, and a file with an append, take the next append.
+pub mod StoresLeft
+pub mod FileAfter
+pub mod HeaderWords
+pub mod ObjectCounts
+pub mod CellLasts
+pub mod CellTails
+pub mod SettledAfter
+pub mod AgreementSays
+pub mod CountersAgree
+pub mod FactsAgree
+pub mod TailsAgree
+pub mod ChainsAgree
+pub mod CountedAgree
+pub mod References
+pub mod ArraysAgree
+pub mod Taking
+pub mod TakesAgain
+pub mod BlankFrame
+pub mod BlankTakes
+pub mod FirstBytes
+pub mod NewFileWords
+pub mod NewTakes
+pub mod Runs
