@@ -9,12 +9,13 @@ use lib.Dec.{ltb, leb, eqb}
 use lib.ListN.{length, getD}
 use borrow.Author.Tests.{le-ltb, eq-eqb, ne-eqb}
 use Rattle.format.specs.Tests.{filter}
-use Rattle.format.specs.Header.{Image, wordAt, headerWord, arenaEnd, headerSize, arenaSize}
+use Rattle.format.specs.Header.{Image, wordAt, headerLength, firstObject, headerWord, arenaEnd, headerSize, arenaSize}
 use Rattle.format.specs.Kinds.{Kind, kindOf, sizeFault, typeOf}
 use Rattle.format.specs.Store.{bytesOf}
 use Rattle.format.specs.Walk.{typeAt, kindAt, flagsAt, nextAt, objectFault, objects, ofKind, walkFault}
 use Rattle.format.specs.Refusal.{arenaFault, headerRefusal, tablesFaultAmong, tablesFault, frameRefusal}
 use Rattle.format.proofs.Rising.{Path, last, more, path-walkFrom, path-faultAmong}
+use Rattle.format.proofs.HeaderSizes.{first-start}
 use Rattle.format.proofs.Growth.{object-sound}
 use Rattle.format.proofs.Tables.{clears-tables}
 use Rattle.format.proofs.Frames.{from-5, from-7}
@@ -35,17 +36,21 @@ head-of img b o t l e =
     add-zero n = omega arith
 
 module _ {img : Image} {dataCells fieldCells : ℕ} (b : Blank img dataCells fieldCells) where
-  -- where the field table stands
+  -- where the data table stands
+  abbrev here : ℕ
+  here = firstObject img
+
+  -- and the field table
   abbrev there : ℕ
-  there = second dataCells
+  there = second here dataCells
 
   -- the arena ends with the image
   arena-end : arenaEnd img ≡ length img
   arena-end = omega (arith, b .arena, b .room)
 
   -- the first object is the data table
-  data-head : (typeAt img 256 ≡ 4) × (flagsAt img 256 ≡ 0)
-  data-head = head-of img (b .bytes) 256 4 (omega arith) (b .dataType)
+  data-head : (typeAt img here ≡ 4) × (flagsAt img here ≡ 0)
+  data-head = head-of img (b .bytes) here 4 (omega arith) (b .dataType)
 
   -- the second the field table
   field-head : (typeAt img there ≡ 5) × (flagsAt img there ≡ 0)
@@ -56,10 +61,10 @@ module _ {img : Image} {dataCells fieldCells : ℕ} (b : Blank img dataCells fie
   table-size n l = rw (le-ltb (16 + 16 * n) 32 (omega arith), eq-eqb ((16 + 16 * n) % 16) 0 (omega arith)) refl
 
   -- so that both are without fault
-  data-sound : objectFault img 256 ≡ false
+  data-sound : objectFault img here ≡ false
   unfolding sizeFault kindAt kindOf
   data-sound =
-      object-sound img 256 (rw (data-head .0, b .dataLong) (table-size dataCells (b .dataSome))) (rw (data-head .1) refl)
+      object-sound img here (rw (data-head .0, b .dataLong) (table-size dataCells (b .dataSome))) (rw (data-head .1) refl)
       (omega (arith, arena-end, b .dataLong, b .room))
 
   field-sound : objectFault img there ≡ false
@@ -69,12 +74,12 @@ module _ {img : Image} {dataCells fieldCells : ℕ} (b : Blank img dataCells fie
       (omega (arith, arena-end, b .fieldLong, b .room))
 
   -- the walk goes over both
-  path : Path img 256 (256 ∷ there ∷ []) there
+  path : Path img here (here ∷ there ∷ []) there
   unfolding nextAt
-  path = let n : nextAt img 256 ≡ there = omega (arith, b .dataLong) in more data-sound n (last field-sound refl)
+  path = let n : nextAt img here ≡ there = omega (arith, b .dataLong) in more data-sound n (last field-sound refl)
 
   -- the objects are the two tables
-  pub two-objects : objects img ≡ 256 ∷ there ∷ []
+  pub two-objects : objects img ≡ here ∷ there ∷ []
   unfolding objects
   two-objects = path-walkFrom path (b .tail)
 
@@ -88,7 +93,7 @@ module _ {img : Image} {dataCells fieldCells : ℕ} (b : Blank img dataCells fie
   unfolding tablesFault
   tables-clear =
       ap (tablesFaultAmong img) two-objects
-      ∙ clears-tables img 256 there [] .1 (
+      ∙ clears-tables img here there [] .1 (
         inl (
           record { type = data-head .0; offset = b .dataAt; size = omega (arith, b .dataSize, b .dataLong) },
           record { type = field-head .0; offset = b .fieldAt; size = omega (arith, b .fieldSize, b .fieldLong) },
@@ -101,14 +106,14 @@ module _ {img : Image} {dataCells fieldCells : ℕ} (b : Blank img dataCells fie
   unfolding arenaFault
   arena-clear =
       rw (
-        eq-eqb (headerWord img headerSize) 256 (b .header),
-        eq-eqb (headerWord img arenaSize % 8) 0 (omega (arith, b .arena, b .whole, b .room)),
+        eq-eqb (headerWord img headerSize) headerLength (b .header),
+        eq-eqb (headerWord img arenaSize % 8) 0 (omega (arith, b .arena, b .whole, b .room, first-start img)),
         le-ltb (length img) (arenaEnd img) (omega (arith, arena-end)),
       ) refl
 
   -- 1 to 5
   header-clear : headerRefusal img ≡ 0
-  header-clear = from-5 img (omega (arith, b .room)) (b .short) (b .signed) (b .flags) false arena-clear
+  header-clear = from-5 img (omega (arith, b .room, first-start img)) (b .short) (b .signed) (b .flags) false arena-clear
 
   -- 1 to 7
   pub frame-clear : frameRefusal img ≡ 0
@@ -119,7 +124,7 @@ module _ {img : Image} {dataCells fieldCells : ℕ} (b : Blank img dataCells fie
   unfolding ofKind filter
   none-of-kind k n m =
       ap (filter (λ o. eqb (typeAt img o) (typeOf k))) two-objects
-      ∙ filter-stop (λ o. eqb (typeAt img o) (typeOf k)) 256 (there ∷ []) (ne-eqb (typeAt img 256) (typeOf k) (λ e. n (sym e ∙ data-head .0)))
+      ∙ filter-stop (λ o. eqb (typeAt img o) (typeOf k)) here (there ∷ []) (ne-eqb (typeAt img here) (typeOf k) (λ e. n (sym e ∙ data-head .0)))
       ∙ filter-stop (λ o. eqb (typeAt img o) (typeOf k)) there [] (ne-eqb (typeAt img there) (typeOf k) (λ e. m (sym e ∙ field-head .0)))
 
   -- nor one of type 8 and up
@@ -127,5 +132,5 @@ module _ {img : Image} {dataCells fieldCells : ℕ} (b : Blank img dataCells fie
   unfolding kindAt kindOf filter
   none-foreign =
       ap (filter (λ o. leb 8 (typeOf (kindAt img o)))) two-objects
-      ∙ filter-stop (λ o. leb 8 (typeOf (kindAt img o))) 256 (there ∷ []) (ap (λ (t : ℕ). leb 8 (typeOf (kindOf t))) (data-head .0))
+      ∙ filter-stop (λ o. leb 8 (typeOf (kindAt img o))) here (there ∷ []) (ap (λ (t : ℕ). leb 8 (typeOf (kindOf t))) (data-head .0))
       ∙ filter-stop (λ o. leb 8 (typeOf (kindAt img o))) there [] (ap (λ (t : ℕ). leb 8 (typeOf (kindOf t))) (field-head .0))

@@ -10,10 +10,11 @@ use lib.ListN.{length, take}
 use borrow.Author.Tests.{eq-eqb}
 use Rattle.format.specs.Tests.{any, filter, lastOr0}
 use Rattle.format.specs.Says.{In}
-use Rattle.format.specs.Header.{Image, headerId, seqnumId, offsetOf, headerWord, stateOf, compatibleFlags, nEntries, tailEntrySeqnum, headEntrySeqnum, entryArrayOffset, headEntryRealtime, tailEntryRealtime, nData, nFields, nTags, nEntryArrays}
+use Rattle.format.specs.Header.{Image, headerId, seqnumId, HeaderField, offsetOf, headerLength, firstObject, headerWord, stateOf, compatibleFlags, nEntries, tailEntrySeqnum, headEntrySeqnum, entryArrayOffset, headEntryRealtime, tailEntryRealtime, nData, nFields, nTags, nEntryArrays}
 use Rattle.format.specs.Kinds.{Kind, DATA, FIELD, ENTRY, ENTRY-ARRAY, TAG, Table, dataTable, fieldTable, chainedKind, typeOf}
 use Rattle.format.specs.Refusal.{Walked, tableObject}
 use Rattle.format.specs.File.{File, model, header, cellHead, cellTail, nextHash}
+use Rattle.format.proofs.HeaderSizes.{first-start}
 use Rattle.format.proofs.Frames.{walked}
 use Rattle.reading.specs.Chains.{trail, cellChain}
 use Rattle.reading.specs.Committed.{headerItems, committed, held}
@@ -64,15 +65,19 @@ module _ {img : Image} {dataCells fieldCells : ℕ} (b : Blank img dataCells fie
   cell-empty : (t : Table) (c : ℕ) → c < F .cells t → (F .read (cellHead t c) ≡ 0) × (F .read (cellTail t c) ≡ 0)
   unfolding tableObject
   cell-empty dataTable c l =
-      (b .dataEmpty _ (omega (arith, b .dataAt)) (omega (arith, b .dataAt)) (omega (arith, b .dataAt, b .dataSize)), b .dataEmpty _ (omega (arith, b .dataAt)) (omega (arith, b .dataAt)) (omega (arith, b .dataAt, b .dataSize)))
-  cell-empty fieldTable c l = (b .fieldEmpty _ (omega (arith, b .fieldAt)) (omega (arith, b .fieldAt)), b .fieldEmpty _ (omega (arith, b .fieldAt)) (omega (arith, b .fieldAt)))
+      (b .dataEmpty _ (omega (arith, b .dataAt, first-start img)) (omega (arith, b .dataAt, first-start img)) (omega (arith, b .dataAt, b .dataSize, first-start img)), b .dataEmpty _ (omega (arith, b .dataAt, first-start img)) (omega (arith, b .dataAt, first-start img)) (omega (arith, b .dataAt, b .dataSize, first-start img)))
+  cell-empty fieldTable c l = (b .fieldEmpty _ (omega (arith, b .fieldAt, first-start img)) (omega (arith, b .fieldAt, first-start img)), b .fieldEmpty _ (omega (arith, b .fieldAt, first-start img)) (omega (arith, b .fieldAt, first-start img)))
+
+  -- a field that every header has stands before the first object
+  before-first : (f : HeaderField) → offsetOf f < headerLength → offsetOf f < firstObject img
+  before-first f h = omega (arith, h, first-start img)
 
   -- n_entries and entry_array_offset are 0
   no-entries : F .read (header nEntries) ≡ 0
-  no-entries = b .facts (offsetOf nEntries) refl (omega arith) (omega arith)
+  no-entries = b .facts (offsetOf nEntries) refl (omega arith) (before-first nEntries (omega arith))
 
   no-chain : F .read (header entryArrayOffset) ≡ 0
-  no-chain = b .facts (offsetOf entryArrayOffset) refl (omega arith) (omega arith)
+  no-chain = b .facts (offsetOf entryArrayOffset) refl (omega arith) (before-first entryArrayOffset (omega arith))
 
   -- 1 to 7
   walked-blank : Walked img
@@ -110,10 +115,10 @@ module _ {img : Image} {dataCells fieldCells : ℕ} (b : Blank img dataCells fie
       record {
         objects = b .objects ∙ ap length (sym (two-objects b));
         entries = no-entries ∙ ap length (sym no-entry);
-        datas = b .facts (offsetOf nData) refl (omega arith) (omega arith) ∙ ap length (sym no-data);
-        fields = b .facts (offsetOf nFields) refl (omega arith) (omega arith) ∙ ap length (sym no-field);
-        tags = b .facts (offsetOf nTags) refl (omega arith) (omega arith) ∙ ap length (sym no-tag);
-        arrays = b .facts (offsetOf nEntryArrays) refl (omega arith) (omega arith) ∙ ap length (sym no-array);
+        datas = b .facts (offsetOf nData) refl (omega arith) (before-first nData (omega arith)) ∙ ap length (sym no-data);
+        fields = b .facts (offsetOf nFields) refl (omega arith) (before-first nFields (omega arith)) ∙ ap length (sym no-field);
+        tags = b .facts (offsetOf nTags) refl (omega arith) (before-first nTags (omega arith)) ∙ ap length (sym no-tag);
+        arrays = b .facts (offsetOf nEntryArrays) refl (omega arith) (before-first nEntryArrays (omega arith)) ∙ ap length (sym no-array);
       }
 
   -- the facts of no entry
@@ -122,10 +127,10 @@ module _ {img : Image} {dataCells fieldCells : ℕ} (b : Blank img dataCells fie
   facts-blank =
       ap (factsFault F) none-committed
       ∙ rw (
-        eq-eqb (headerWord img headEntrySeqnum) 0 (b .facts (offsetOf headEntrySeqnum) refl (omega arith) (omega arith)),
-        eq-eqb (headerWord img tailEntrySeqnum) 0 (b .facts (offsetOf tailEntrySeqnum) refl (omega arith) (omega arith)),
-        eq-eqb (headerWord img headEntryRealtime) 0 (b .facts (offsetOf headEntryRealtime) refl (omega arith) (omega arith)),
-        eq-eqb (headerWord img tailEntryRealtime) 0 (b .facts (offsetOf tailEntryRealtime) refl (omega arith) (omega arith)),
+        eq-eqb (headerWord img headEntrySeqnum) 0 (b .facts (offsetOf headEntrySeqnum) refl (omega arith) (before-first headEntrySeqnum (omega arith))),
+        eq-eqb (headerWord img tailEntrySeqnum) 0 (b .facts (offsetOf tailEntrySeqnum) refl (omega arith) (before-first tailEntrySeqnum (omega arith))),
+        eq-eqb (headerWord img headEntryRealtime) 0 (b .facts (offsetOf headEntryRealtime) refl (omega arith) (before-first headEntryRealtime (omega arith))),
+        eq-eqb (headerWord img tailEntryRealtime) 0 (b .facts (offsetOf tailEntryRealtime) refl (omega arith) (before-first tailEntryRealtime (omega arith))),
       ) refl
 
   -- chains are empty

@@ -7,10 +7,10 @@ use Prim.Native.Nat.{ℕ, _+_, _*_, _-_, _%_, _^_, _≤_, _<_}
 use native.Mathlib.Omega.{arith}
 use lib.ListN.{length, take, drop}
 use Rattle.format.specs.Number.{numberAt, Bytes}
-use Rattle.format.specs.Header.{Image, wordAt}
+use Rattle.format.specs.Header.{Image, wordAt, headerLength}
 use Rattle.format.specs.Stores.{Store, storesFrom, carryAll}
 use Rattle.format.proofs.StoreLists.{Each, each-none, each-more, each-all, each-in, length-carryAll}
-use Rattle.writing.specs.NewFile.{Asked, firstBytes, setField, tableStores, firstWords, newFile}
+use Rattle.writing.specs.NewFile.{Asked, newFirst, firstBytes, setField, tableStores, firstWords, newFile}
 use Rattle.writing.proofs.NewFiles.{Granted}
 use Rattle.crash_states.proofs.Accepted.{Carries}
 use Rattle.next_append.specs.Next.{GivenIds}
@@ -18,37 +18,62 @@ use Rattle.next_append.specs.Blank.{second}
 use Rattle.next_append.proofs.StoresLeft.{left, left-past, left-here, left-none, AllCarry, bytes-carried, number-before, part-before, word-left}
 use Rattle.next_append.proofs.FirstBytes.{first-length, first-are-bytes, first-word}
 
--- a place of the header's words from 88 to 144, or of the data table's first two
-abbrev Head : ℕ → Type 0
-Head a = ((88 ≤ a) × (a ≤ 144)) ⊎ ((256 ≤ a) × (a ≤ 264))
+-- stores to other words leave a word
+left-others : (ss later : List Store) (o x : ℕ) → Each (λ s. s .at ≡ o → ⊥) ss → left (ss ++ later) o x ≡ left later o x
+left-others [] later o x each-none = refl
+left-others (s ∷ ss) later o x (each-more n ns) = left-past s (ss ++ later) o x n ∙ left-others ss later o x ns
+
+-- a place before another, or after it, is not the other
+below : (a o : ℕ) → a < o → a ≡ o → ⊥
+below a o l e = omega arith
+
+above : (a o : ℕ) → o < a → a ≡ o → ⊥
+above a o l e = omega arith
+
+-- a place of the header's words from 88 to 144, or of the first two of a data table at `first`
+abbrev Head : ℕ → ℕ → Type 0
+Head first a = ((88 ≤ a) × (a ≤ 144)) ⊎ ((first ≤ a) × (a ≤ first + 8))
 
 -- a place between them, or after them
-abbrev Clear : ℕ → Type 0
-Clear o = ((144 < o) × (o < 256)) ⊎ (264 < o)
+abbrev Clear : ℕ → ℕ → Type 0
+Clear first o = ((144 < o) × (o < first)) ⊎ (first + 8 < o)
 
 -- is none of them
-clear-other : (a o : ℕ) → Head a → Clear o → a ≡ o → ⊥
-clear-other a o (inl h) (inl c) e = omega arith
-clear-other a o (inl h) (inr c) e = omega arith
-clear-other a o (inr h) (inl c) e = omega arith
-clear-other a o (inr h) (inr c) e = omega arith
-
--- so that stores there leave it
-left-clear : (ss later : List Store) → Each (λ s. Head (s .at)) ss → (o x : ℕ) → Clear o → left (ss ++ later) o x ≡ left later o x
-left-clear [] later h o x c = refl
-left-clear (s ∷ ss) later (each-more h hs) o x c = left-past s (ss ++ later) o x (clear-other (s .at) o h c) ∙ left-clear ss later hs o x c
+clear-other : (first a o : ℕ) → headerLength ≤ first → Head first a → Clear first o → a ≡ o → ⊥
+clear-other first a o l (inl h) (inl c) e = omega arith
+clear-other first a o l (inl h) (inr c) e = omega arith
+clear-other first a o l (inr h) (inl c) e = omega arith
+clear-other first a o l (inr h) (inr c) e = omega arith
 
 module _ (len : ℕ) (a : Asked) (given : GivenIds a) (g : Granted len a) where
+  -- where the two tables stand
+  abbrev here : ℕ
+  here = newFirst a
+
+  abbrev there : ℕ
+  there = second here (a .dataCells)
+
+  -- the stores to the header before those to the data table
+  abbrev headerStores : List Store
+  headerStores =
+      record { at = 88; value = here } ∷ record { at = 96; value = len - here } ∷ record { at = 136; value = there } ∷ record { at = 144; value = 2 }
+      ∷ record { at = 104; value = here + 16 } ∷ record { at = 112; value = 16 * a .dataCells } ∷ []
+
+  -- those to the data table
+  abbrev dataStores : List Store
+  dataStores = record { at = here; value = 4 } ∷ record { at = here + 8; value = 16 + 16 * a .dataCells } ∷ []
+
+  -- and those to the header after them
+  abbrev fieldWordStores : List Store
+  fieldWordStores = record { at = 120; value = there + 16 } ∷ record { at = 128; value = 16 * a .fieldCells } ∷ []
+
   -- the stores to header and data table
   abbrev headStores : List Store
-  headStores =
-      record { at = 88; value = 256 } ∷ record { at = 96; value = len - 256 } ∷ record { at = 136; value = second (a .dataCells) } ∷ record { at = 144; value = 2 }
-      ∷ record { at = 104; value = 272 } ∷ record { at = 112; value = 16 * a .dataCells } ∷ record { at = 256; value = 4 } ∷ record { at = 264; value = 16 + 16 * a .dataCells }
-      ∷ record { at = 120; value = second (a .dataCells) + 16 } ∷ record { at = 128; value = 16 * a .fieldCells } ∷ []
+  headStores = headerStores ++ (dataStores ++ fieldWordStores)
 
   -- those to the field table
   abbrev fieldStores : List Store
-  fieldStores = record { at = second (a .dataCells); value = 5 } ∷ record { at = second (a .dataCells) + 8; value = 16 + 16 * a .fieldCells } ∷ []
+  fieldStores = record { at = there; value = 5 } ∷ record { at = there + 8; value = 16 + 16 * a .fieldCells } ∷ []
 
   -- are all
   stores-are : firstWords len a ≡ headStores ++ fieldStores
@@ -57,28 +82,28 @@ module _ (len : ℕ) (a : Asked) (given : GivenIds a) (g : Granted len a) where
 
   -- a store that can be carried out, to a word of header or data table
   abbrev InHead : Store → Type 0
-  InHead s = Carries len s × Head (s .at)
+  InHead s = Carries len s × Head here (s .at)
 
   -- one to the header
   to-header : (o v : ℕ) → o % 8 ≡ 0 → 88 ≤ o → o ≤ 144 → v < 2 ^ 64 → InHead (record { at = o; value = v })
-  to-header o v z l h s = (record { aligned = z; inside = omega (arith, g .room); small = s }, inl (l, h))
+  to-header o v z l h s = (record { aligned = z; inside = omega (arith, g .start, g .room); small = s }, inl (l, h))
 
   -- one to the data table
-  to-table : (o v : ℕ) → o % 8 ≡ 0 → 256 ≤ o → o ≤ 264 → v < 2 ^ 64 → InHead (record { at = o; value = v })
+  to-table : (o v : ℕ) → o % 8 ≡ 0 → here ≤ o → o ≤ here + 8 → v < 2 ^ 64 → InHead (record { at = o; value = v })
   to-table o v z l h s = (record { aligned = z; inside = omega (arith, g .room); small = s }, inr (l, h))
 
   -- the first ten are such stores
   in-head : Each InHead headStores
   in-head =
-      each-more (to-header 88 256 refl (omega arith) (omega arith) (omega arith))
-      (each-more (to-header 96 (len - 256) refl (omega arith) (omega arith) (omega (arith, g .short)))
-      (each-more (to-header 136 (second (a .dataCells)) refl (omega arith) (omega arith) (omega (arith, g .data-cells)))
+      each-more (to-header 88 here refl (omega arith) (omega arith) (omega (arith, g .start)))
+      (each-more (to-header 96 (len - here) refl (omega arith) (omega arith) (omega (arith, g .short)))
+      (each-more (to-header 136 there refl (omega arith) (omega arith) (omega (arith, g .start, g .data-cells)))
       (each-more (to-header 144 2 refl (omega arith) (omega arith) (omega arith))
-      (each-more (to-header 104 272 refl (omega arith) (omega arith) (omega arith))
+      (each-more (to-header 104 (here + 16) refl (omega arith) (omega arith) (omega (arith, g .start)))
       (each-more (to-header 112 (16 * a .dataCells) refl (omega arith) (omega arith) (omega (arith, g .data-cells)))
-      (each-more (to-table 256 4 refl (omega arith) (omega arith) (omega arith))
-      (each-more (to-table 264 (16 + 16 * a .dataCells) refl (omega arith) (omega arith) (omega (arith, g .data-cells)))
-      (each-more (to-header 120 (second (a .dataCells) + 16) refl (omega arith) (omega arith) (omega (arith, g .data-cells)))
+      (each-more (to-table here 4 (g .start .aligned) (omega arith) (omega arith) (omega arith))
+      (each-more (to-table (here + 8) (16 + 16 * a .dataCells) (omega (arith, g .start)) (omega arith) (omega arith) (omega (arith, g .data-cells)))
+      (each-more (to-header 120 (there + 16) refl (omega arith) (omega arith) (omega (arith, g .start, g .data-cells)))
       (each-more (to-header 128 (16 * a .fieldCells) refl (omega arith) (omega arith) (omega (arith, g .field-cells)))
       each-none)))))))))
 
@@ -92,16 +117,16 @@ module _ (len : ℕ) (a : Asked) (given : GivenIds a) (g : Granted len a) where
 
   fields-fit : Each Fit fieldStores
   fields-fit =
-      each-more (to-fields (second (a .dataCells)) 5 (omega arith) (omega arith) (omega (arith, g .room)) (omega arith))
-      (each-more (to-fields (second (a .dataCells) + 8) (16 + 16 * a .fieldCells) (omega arith) (omega arith) (omega (arith, g .room)) (omega (arith, g .field-cells))) each-none)
+      each-more (to-fields there 5 (omega (arith, g .start)) (omega (arith, g .start)) (omega (arith, g .room)) (omega arith))
+      (each-more (to-fields (there + 8) (16 + 16 * a .fieldCells) (omega (arith, g .start)) (omega (arith, g .start)) (omega (arith, g .room)) (omega (arith, g .field-cells))) each-none)
 
   -- all twelve
   all-fit : (s : Store) → List·Memᴰ s (headStores ++ fieldStores) → Fit s
   all-fit s m = go (List·Memᴰ·append-cases headStores m)
     where
-      low : Head (s .at) → 88 ≤ s .at
+      low : Head here (s .at) → 88 ≤ s .at
       low (inl h) = h .0
-      low (inr h) = omega arith
+      low (inr h) = omega (arith, g .start)
 
       go : List·Memᴰ s headStores ⊎ List·Memᴰ s fieldStores → Fit s
       go (inl i) = let k = each-in in-head s i in (k .0, low (k .1))
@@ -141,53 +166,91 @@ module _ (len : ℕ) (a : Asked) (given : GivenIds a) (g : Granted len a) where
   word-at o z = ap (λ (i : Image). wordAt i o) file-is ∙ word-left (headStores ++ fieldStores) (firstBytes len a) carry o z
 
   -- the last two stores leave the words before the field table
-  before-second : (o x : ℕ) → o < second (a .dataCells) → left fieldStores o x ≡ x
+  before-second : (o x : ℕ) → o < there → left fieldStores o x ≡ x
   before-second o x l = left-past _ _ o x (λ e. omega (arith, l)) ∙ left-past _ _ o x (λ e. omega (arith, l)) ∙ left-none o x
 
-  -- the words of the header and the data table, each as its store says
-  pub head-words : (wordAt (newFile len a) 88 ≡ 256) × (wordAt (newFile len a) 96 ≡ len - 256) × (wordAt (newFile len a) 104 ≡ 272) × (wordAt (newFile len a) 112 ≡ 16 * a .dataCells)
-      × (wordAt (newFile len a) 120 ≡ second (a .dataCells) + 16) × (wordAt (newFile len a) 128 ≡ 16 * a .fieldCells) × (wordAt (newFile len a) 136 ≡ second (a .dataCells))
-      × (wordAt (newFile len a) 144 ≡ 2) × (wordAt (newFile len a) 256 ≡ 4) × (wordAt (newFile len a) 264 ≡ 16 + 16 * a .dataCells)
+  -- the header's stores leave the words after 144
+  header-others : (o : ℕ) → 144 < o → Each (λ s. s .at ≡ o → ⊥) headerStores
+  header-others o l =
+      each-more (below 88 o (omega arith)) (each-more (below 96 o (omega arith)) (each-more (below 136 o (omega arith))
+      (each-more (below 144 o (omega arith)) (each-more (below 104 o (omega arith)) (each-more (below 112 o (omega arith)) each-none)))))
+
+  field-word-others : (o : ℕ) → 144 < o → Each (λ s. s .at ≡ o → ⊥) fieldWordStores
+  field-word-others o l = each-more (below 120 o (omega arith)) (each-more (below 128 o (omega arith)) each-none)
+
+  -- the data table's those before it
+  data-others : (o : ℕ) → o < here → Each (λ s. s .at ≡ o → ⊥) dataStores
+  data-others o l = each-more (above here o l) (each-more (above (here + 8) o (omega arith)) each-none)
+
+  fields-past : (o x : ℕ) → o ≤ 144 → left (fieldWordStores ++ fieldStores) o x ≡ left fieldWordStores o x
   unfolding left
-  head-words = (
-    word-at 88 refl ∙ before-second 88 256 (omega arith),
-    word-at 96 refl ∙ before-second 96 (len - 256) (omega arith),
-    word-at 104 refl ∙ before-second 104 272 (omega arith),
-    word-at 112 refl ∙ before-second 112 (16 * a .dataCells) (omega arith),
-    word-at 120 refl ∙ before-second 120 (second (a .dataCells) + 16) (omega arith),
-    word-at 128 refl ∙ before-second 128 (16 * a .fieldCells) (omega arith),
-    word-at 136 refl ∙ before-second 136 (second (a .dataCells)) (omega arith),
-    word-at 144 refl ∙ before-second 144 2 (omega arith),
-    word-at 256 refl ∙ before-second 256 4 (omega arith),
-    word-at 264 refl ∙ before-second 264 (16 + 16 * a .dataCells) (omega (arith, g .data-some)),
+  fields-past o x l = before-second o _ (omega (arith, l, g .start))
+
+  -- so that in a word of the header its own stores alone leave something
+  header-word : (o x : ℕ) → o ≤ 144 → left (dataStores ++ (fieldWordStores ++ fieldStores)) o x ≡ left fieldWordStores o x
+  header-word o x l =
+      left-others dataStores (fieldWordStores ++ fieldStores) o x (data-others o (omega (arith, l, g .start)))
+      ∙ fields-past o x l
+
+  -- the words of the header, each as its store says
+  pub header-words : (wordAt (newFile len a) 88 ≡ here) × (wordAt (newFile len a) 96 ≡ len - here) × (wordAt (newFile len a) 104 ≡ here + 16) × (wordAt (newFile len a) 112 ≡ 16 * a .dataCells)
+      × (wordAt (newFile len a) 120 ≡ there + 16) × (wordAt (newFile len a) 128 ≡ 16 * a .fieldCells) × (wordAt (newFile len a) 136 ≡ there) × (wordAt (newFile len a) 144 ≡ 2)
+  unfolding left
+  header-words = (
+    word-at 88 refl ∙ header-word 88 here (omega arith),
+    word-at 96 refl ∙ header-word 96 (len - here) (omega arith),
+    word-at 104 refl ∙ header-word 104 (here + 16) (omega arith),
+    word-at 112 refl ∙ header-word 112 (16 * a .dataCells) (omega arith),
+    word-at 120 refl ∙ header-word 120 (wordAt (firstBytes len a) 120) (omega arith),
+    word-at 128 refl ∙ header-word 128 (wordAt (firstBytes len a) 128) (omega arith),
+    word-at 136 refl ∙ header-word 136 there (omega arith),
+    word-at 144 refl ∙ header-word 144 2 (omega arith),
   )
 
+  -- the data table's type
+  pub data-type : wordAt (newFile len a) here ≡ 4
+  data-type =
+      word-at here (g .start .aligned)
+      ∙ left-others headerStores (dataStores ++ (fieldWordStores ++ fieldStores)) here _ (header-others here (omega (arith, g .start)))
+      ∙ left-here _ _ here _ refl ∙ left-past _ _ here 4 (λ e. omega (arith, e))
+      ∙ left-others fieldWordStores fieldStores here 4 (field-word-others here (omega (arith, g .start)))
+      ∙ before-second here 4 (omega arith)
+
+  -- and size
+  pub data-long : wordAt (newFile len a) (here + 8) ≡ 16 + 16 * a .dataCells
+  data-long =
+      word-at (here + 8) (omega (arith, g .start))
+      ∙ left-others headerStores (dataStores ++ (fieldWordStores ++ fieldStores)) (here + 8) _ (header-others (here + 8) (omega (arith, g .start)))
+      ∙ left-past _ _ (here + 8) _ (λ e. omega (arith, e)) ∙ left-here _ _ (here + 8) _ refl
+      ∙ left-others fieldWordStores fieldStores (here + 8) (16 + 16 * a .dataCells) (field-word-others (here + 8) (omega (arith, g .start)))
+      ∙ before-second (here + 8) (16 + 16 * a .dataCells) (omega arith)
+
   -- a word that none of the first ten is to
-  word-clear : (o : ℕ) → o % 8 ≡ 0 → Clear o → wordAt (newFile len a) o ≡ left fieldStores o 0
+  word-clear : (o : ℕ) → o % 8 ≡ 0 → Clear here o → wordAt (newFile len a) o ≡ left fieldStores o 0
   word-clear o z c =
-      word-at o z ∙ left-clear headStores fieldStores (each-all headStores (λ s m. each-in in-head s m .1)) o _ c ∙ ap (left fieldStores o) (first-word len a given g o (low c))
+      word-at o z ∙ left-others headStores fieldStores o _ (each-all headStores (λ s m. clear-other here (s .at) o (g .start .low) (each-in in-head s m .1) c)) ∙ ap (left fieldStores o) (first-word len a given g o (low c))
     where
-      low : Clear o → 88 ≤ o
+      low : Clear here o → 88 ≤ o
       low (inl h) = omega arith
-      low (inr h) = omega arith
+      low (inr h) = omega (arith, g .start)
 
   -- before the field table
-  pub zero-before : (o : ℕ) → o % 8 ≡ 0 → Clear o → o < second (a .dataCells) → wordAt (newFile len a) o ≡ 0
+  pub zero-before : (o : ℕ) → o % 8 ≡ 0 → Clear here o → o < there → wordAt (newFile len a) o ≡ 0
   zero-before o z c l = word-clear o z c ∙ before-second o 0 l
 
   -- and from its cells on
-  pub zero-after : (o : ℕ) → o % 8 ≡ 0 → second (a .dataCells) + 16 ≤ o → wordAt (newFile len a) o ≡ 0
+  pub zero-after : (o : ℕ) → o % 8 ≡ 0 → there + 16 ≤ o → wordAt (newFile len a) o ≡ 0
   zero-after o z l =
       word-clear o z (inr (omega arith)) ∙ left-past _ _ o 0 (λ e. omega (arith, l)) ∙ left-past _ _ o 0 (λ e. omega (arith, l)) ∙ left-none o 0
 
   -- the field table's type
-  pub field-type : wordAt (newFile len a) (second (a .dataCells)) ≡ 5
+  pub field-type : wordAt (newFile len a) there ≡ 5
   field-type =
-      word-clear (second (a .dataCells)) (omega arith) (inr (omega (arith, g .data-some)))
-      ∙ left-here _ _ (second (a .dataCells)) 0 refl ∙ left-past _ _ (second (a .dataCells)) 5 (λ e. omega (arith, e)) ∙ left-none (second (a .dataCells)) 5
+      word-clear there (omega (arith, g .start)) (inr (omega (arith, g .data-some)))
+      ∙ left-here _ _ there 0 refl ∙ left-past _ _ there 5 (λ e. omega (arith, e)) ∙ left-none there 5
 
   -- and size
-  pub field-long : wordAt (newFile len a) (second (a .dataCells) + 8) ≡ 16 + 16 * a .fieldCells
+  pub field-long : wordAt (newFile len a) (there + 8) ≡ 16 + 16 * a .fieldCells
   field-long =
-      word-clear (second (a .dataCells) + 8) (omega arith) (inr (omega arith))
-      ∙ left-past _ _ (second (a .dataCells) + 8) 0 (λ e. omega (arith, e)) ∙ left-here _ _ (second (a .dataCells) + 8) 0 refl ∙ left-none (second (a .dataCells) + 8) (16 + 16 * a .fieldCells)
+      word-clear (there + 8) (omega (arith, g .start)) (inr (omega arith))
+      ∙ left-past _ _ (there + 8) 0 (λ e. omega (arith, e)) ∙ left-here _ _ (there + 8) 0 refl ∙ left-none (there + 8) (16 + 16 * a .fieldCells)

@@ -3,24 +3,25 @@ use mathlib.Core.Path.{_≡_, refl, sym, ap, _∙_, subst}
 use mathlib.Core.Logic.{inl, inr}
 use mathlib.Core.Bool.{false, not}
 use mathlib.Core.List.{List, []}
-use Prim.Native.Nat.{ℕ, _-_, _%_}
+use Prim.Native.Nat.{ℕ, _%_}
 use native.Mathlib.Omega.{arith}
 use lib.Dec.{eqb}
 use lib.Bits.{bitAnd}
 use lib.ListN.{length}
 use Rattle.format.specs.Number.{number, numberAt}
 use Rattle.format.specs.Tests.{same}
-use Rattle.format.specs.Header.{Image, headerId, compatibleFlags, signature, seqnumId}
+use Rattle.format.specs.Header.{Image, firstObject, headerId, compatibleFlags, signature, seqnumId}
 use Rattle.format.specs.Store.{bytesOf}
 use Rattle.format.specs.File.{model}
 use Rattle.format.specs.Refusal.{signatureFault, flagsFault}
+use Rattle.format.proofs.HeaderSizes.{first-least}
 use Rattle.reading.specs.View.{View, view}
-use Rattle.writing.specs.NewFile.{Asked, firstBytes, newFile, made}
-use Rattle.writing.proofs.NewFiles.{Granted, granted-by}
+use Rattle.writing.specs.NewFile.{Asked, newFirst, firstBytes, newFile, made}
+use Rattle.writing.proofs.NewFiles.{new-first, Granted, granted-by}
 use Rattle.next_append.specs.Next.{TakesAppends, GivenIds, showsNothing, New}
 use Rattle.next_append.specs.Blank.{Blank}
 use Rattle.next_append.proofs.FirstBytes.{first-flags, first-seqnum-id}
-use Rattle.next_append.proofs.NewFileWords.{file-length, file-bytes, first-number, first-part, head-words, zero-before, zero-after, field-type, field-long}
+use Rattle.next_append.proofs.NewFileWords.{file-length, file-bytes, first-number, first-part, header-words, zero-before, zero-after, data-type, data-long, field-type, field-long}
 use Rattle.next_append.proofs.BlankTakes.{blank-takes, blank-shows}
 
 module _ (len : ℕ) (a : Asked) (given : GivenIds a) (g : Granted len a) where
@@ -45,37 +46,42 @@ module _ (len : ℕ) (a : Asked) (given : GivenIds a) (g : Granted len a) where
   unfolding firstBytes signature bytesOf numberAt number
   offline = first-number len a given g 8 16 (omega arith)
 
+  -- the first object starts at the header's end
+  first-is : firstObject (newFile len a) ≡ newFirst a
+  first-is = first-least (newFile len a) (header-words len a given g .0 ∙ new-first a) ∙ sym (new-first a)
+
   -- two empty tables and nothing else
   blank : Blank (newFile len a) (a .dataCells) (a .fieldCells)
   blank =
       let l = file-length len a given g in
-      let w = head-words len a given g in
+      let w = header-words len a given g in
+      let f = first-is in
       record {
         bytes = file-bytes len a given g;
         short = omega (arith, l, g .short);
         whole = ap (λ (n : ℕ). n % 8) l ∙ g .whole;
         dataSome = g .data-some;
         fieldSome = g .field-some;
-        room = omega (arith, l, g .room);
+        room = omega (arith, f, l, g .room);
         signed = signed;
         flags = flags;
         compatible = compatible;
         offline = offline;
-        header = w .0;
-        arena = w .1 ∙ ap (λ (n : ℕ). n - 256) (sym l);
-        dataAt = w .2;
+        header = w .0 ∙ new-first a;
+        arena = omega (arith, w .1, f, l);
+        dataAt = omega (arith, w .2, f);
         dataSize = w .3;
-        fieldAt = w .4;
+        fieldAt = omega (arith, w .4, f);
         fieldSize = w .5;
-        tail = w .6;
+        tail = omega (arith, w .6, f);
         objects = w .7;
-        facts = λ o z h k. zero-before len a given g o z (inl (omega arith, k)) (omega arith);
-        dataType = w .8;
-        dataLong = w .9;
-        fieldType = field-type len a given g;
-        fieldLong = field-long len a given g;
-        dataEmpty = λ o z h k. zero-before len a given g o z (inr (omega arith)) k;
-        fieldEmpty = zero-after len a given g;
+        facts = λ o z h k. zero-before len a given g o z (inl (omega arith, omega (arith, k, f))) (omega (arith, k, f));
+        dataType = rw f (data-type len a given g);
+        dataLong = rw f (data-long len a given g);
+        fieldType = rw f (field-type len a given g);
+        fieldLong = rw f (field-long len a given g);
+        dataEmpty = λ o z h k. zero-before len a given g o z (inr (omega (arith, h, f))) (omega (arith, k, f));
+        fieldEmpty = λ o z h. zero-after len a given g o z (omega (arith, h, f));
       }
 
   -- nothing is shown, under the seqnum id as given
