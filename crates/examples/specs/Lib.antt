@@ -1,5 +1,6 @@
 -- The worked examples of the rules, computed over the definitions, as one statement. Nothing to call.
 pub mod Examples
 pub mod Foreign
+pub mod LongHeader
 pub mod Streams
 pub mod Syncs

@@ -9,7 +9,7 @@ use lib.Dec.{ltb, leb, eqb}
 use lib.ListN.{length, getD}
 use borrow.Author.Tests.{le-ltb, eq-eqb, ne-eqb}
 use Rattle.format.specs.Tests.{filter}
-use Rattle.format.specs.Header.{Image, wordAt, headerLength, firstObject, headerWord, arenaEnd, headerSize, arenaSize}
+use Rattle.format.specs.Header.{Image, wordAt, firstObject, headerWord, arenaEnd, arenaSize}
 use Rattle.format.specs.Kinds.{Kind, kindOf, sizeFault, typeOf}
 use Rattle.format.specs.Store.{bytesOf}
 use Rattle.format.specs.Walk.{typeAt, kindAt, flagsAt, nextAt, objectFault, objects, ofKind, walkFault}
@@ -106,7 +106,7 @@ module _ {img : Image} {dataCells fieldCells : ℕ} (b : Blank img dataCells fie
   unfolding arenaFault
   arena-clear =
       rw (
-        eq-eqb (headerWord img headerSize) headerLength (b .header),
+        b .header,
         eq-eqb (headerWord img arenaSize % 8) 0 (omega (arith, b .arena, b .whole, b .room, first-start img)),
         le-ltb (length img) (arenaEnd img) (omega (arith, arena-end)),
       ) refl

@@ -2,34 +2,35 @@
 -- objects other than tables has nothing to speak of, and the words of header and cells are 0.
 use mathlib.Core.Path.{_≡_, refl, sym, ap, ap₂, _∙_, subst}
 use mathlib.Core.Logic.{inl}
-use mathlib.Core.Bool.{false, not}
+use mathlib.Core.Bool.{true, false, not}
 use mathlib.Core.List.{List, [], map, reverse, List·Memᴰ·not-nil}
-use Prim.Native.Nat.{ℕ, _%_, _<_}
+use Prim.Native.Nat.{ℕ, _+_, _%_, _<_}
 use native.Mathlib.Omega.{arith}
 use lib.ListN.{length, take}
-use borrow.Author.Tests.{eq-eqb}
+use borrow.Author.Tests.{eq-eqb, leb-true}
 use Rattle.format.specs.Tests.{any, filter, lastOr0}
 use Rattle.format.specs.Says.{In}
-use Rattle.format.specs.Header.{Image, headerId, seqnumId, HeaderField, offsetOf, headerLength, firstObject, headerWord, stateOf, compatibleFlags, nEntries, tailEntrySeqnum, headEntrySeqnum, entryArrayOffset, headEntryRealtime, tailEntryRealtime, nData, nFields, nTags, nEntryArrays}
+use Rattle.format.specs.Header.{Image, headerId, seqnumId, HeaderField, offsetOf, LateField, tailEntryArray, tailEntryOffset, lateOffset, headerLength, firstObject, headerWord, stateOf, bootOfTail, nEntries, tailEntrySeqnum, headEntrySeqnum, entryArrayOffset, headEntryRealtime, tailEntryRealtime, nData, nFields, nTags, nEntryArrays}
 use Rattle.format.specs.Kinds.{Kind, DATA, FIELD, ENTRY, ENTRY-ARRAY, TAG, Table, dataTable, fieldTable, chainedKind, typeOf}
 use Rattle.format.specs.Refusal.{Walked, tableObject}
-use Rattle.format.specs.File.{File, model, header, cellHead, cellTail, nextHash}
+use Rattle.format.specs.File.{File, model, hasLate, header, late, cellHead, cellTail, nextHash}
 use Rattle.format.proofs.HeaderSizes.{first-start}
 use Rattle.format.proofs.Frames.{walked}
 use Rattle.reading.specs.Chains.{trail, cellChain}
-use Rattle.reading.specs.Committed.{headerItems, committed, held}
+use Rattle.reading.specs.Committed.{headerItems, committed, lastCommitted, held}
 use Rattle.reading.specs.Refusal.{refusal}
 use Rattle.reading.proofs.Opening.{refusal-index}
 use Rattle.reading.specs.View.{View, Shown, Part, ForeignObject, part, shownEntry, shownPayloads, foreignObjects, view}
-use Rattle.writing.specs.Agreement.{disagrees, factsFault, chainsFault, countedFault, arrayReferences, twice}
-use Rattle.writing.specs.Ready.{compatibleFault, stateFault}
+use Rattle.writing.specs.TailArray.{tailArray}
+use Rattle.writing.specs.Agreement.{disagrees, factsFault, lateFault, chainsFault, countedFault, arrayReferences, twice}
+use Rattle.writing.specs.Ready.{stateFault}
 use Rattle.writing.proofs.ReadyLaws.{Agreeing, agreement-clears}
 use Rattle.partial_append.proofs.FormedLaws.{formed}
 use Rattle.partial_append.proofs.Passing.{Passes, passed}
 use Rattle.next_append.specs.Next.{TakesAppends}
 use Rattle.next_append.specs.Blank.{Blank}
 use Rattle.next_append.proofs.Taking.{state-of-word, takes-appends}
-use Rattle.next_append.proofs.AgreementSays.{CountersRight, counters-clear, tails-clear}
+use Rattle.next_append.proofs.AgreementSays.{CountersRight, counters-clear, late-clear, tails-clear}
 use Rattle.next_append.proofs.BlankFrame.{two-objects, frame-clear, none-of-kind, none-foreign}
 
 module _ {img : Image} {dataCells fieldCells : ℕ} (b : Blank img dataCells fieldCells) where
@@ -133,6 +134,20 @@ module _ {img : Image} {dataCells fieldCells : ℕ} (b : Blank img dataCells fie
         eq-eqb (headerWord img tailEntryRealtime) 0 (b .facts (offsetOf tailEntryRealtime) refl (omega arith) (before-first tailEntryRealtime (omega arith))),
       ) refl
 
+  -- the words of a longer header
+  late-empty : (l : LateField) → hasLate F l ≡ true → F .read (late l) ≡ 0
+  unfolding hasLate
+  late-empty tailEntryArray h = b .facts (lateOffset tailEntryArray) refl (omega arith) (omega (arith, leb-true (lateOffset tailEntryArray + 8) (firstObject img) h))
+  late-empty tailEntryOffset h = b .facts (lateOffset tailEntryOffset) refl (omega arith) (omega (arith, leb-true (lateOffset tailEntryOffset + 8) (firstObject img) h))
+
+  late-blank : lateFault F ≡ false
+  unfolding tailArray lastCommitted lastOr0
+  late-blank =
+      late-clear F .1 (
+        λ h. late-empty tailEntryArray h ∙ ap (tailArray F (header entryArrayOffset)) (sym no-entries),
+        λ h. late-empty tailEntryOffset h ∙ ap lastOr0 (sym none-committed),
+      )
+
   -- chains are empty
   no-chained-cell : (t : Table) (c : ℕ) → cellChain F t c ≡ []
   unfolding cellChain trail
@@ -160,6 +175,7 @@ module _ {img : Image} {dataCells fieldCells : ℕ} (b : Blank img dataCells fie
       record {
         counters = counters-clear F .1 counters-blank;
         facts = facts-blank;
+        late = late-blank;
         tails = λ t. tails-clear F t .1 (λ c l. cell-empty t c l .1 ∙ ap lastOr0 (sym (no-chained-cell t c)));
         chains = chains-blank;
         counted = counted-blank;
@@ -171,22 +187,17 @@ module _ {img : Image} {dataCells fieldCells : ℕ} (b : Blank img dataCells fie
   unfolding stateFault
   offline-blank = ap not (eq-eqb (stateOf img) 0 (state-of-word img (b .bytes) ∙ ap (λ (n : ℕ). n % 256) (b .offline)))
 
-  -- 12
-  compatible-blank : compatibleFault img ≡ false
-  unfolding compatibleFault
-  compatible-blank = ap not (eq-eqb (compatibleFlags img) 0 (b .compatible))
-
   -- it takes appends
   pub blank-takes : TakesAppends img
   blank-takes =
-      takes-appends img (b .bytes) (record { opens = opens-blank; compatible = compatible-blank; offline = offline-blank; agrees = agreement-clears F .1 agrees-blank })
+      takes-appends img (b .bytes) (record { opens = opens-blank; compatible = b .compatible; sized = b .sized; offline = offline-blank; agrees = agreement-clears F .1 agrees-blank })
 
   -- and shows nothing
-  pub blank-shows : view F ≡ record { entries = []; payloads = []; seqnumId = headerId img seqnumId; foreign = [] }
+  pub blank-shows : view F ≡ record { entries = []; payloads = []; seqnumId = headerId img seqnumId; foreign = []; bootOfTail = bootOfTail img }
   unfolding view shownPayloads foreignObjects filter
   blank-shows =
       ap₂ (λ (es : List ℕ) (ds : List ℕ). shown (map (λ e. shownEntry F e) es) (map (λ d. part F d) (reverse (filter (λ d. held F d) ds))) (foreignObjects F)) none-committed no-data
       ∙ ap (λ (os : List ℕ). shown [] [] (map (λ o. record { offset = o; type = typeOf (F .kind o) }) os)) (none-foreign b)
     where
       shown : List Shown → List Part → List ForeignObject → View
-      shown es ps fs = record { entries = es; payloads = ps; seqnumId = headerId img seqnumId; foreign = fs }
+      shown es ps fs = record { entries = es; payloads = ps; seqnumId = headerId img seqnumId; foreign = fs; bootOfTail = bootOfTail img }

@@ -9,6 +9,7 @@ pub mod SettledAfter
 pub mod AgreementSays
 pub mod CountersAgree
 pub mod FactsAgree
+pub mod LateAgree
 pub mod TailsAgree
 pub mod ChainsAgree
 pub mod CountedAgree

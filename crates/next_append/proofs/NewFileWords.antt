@@ -9,9 +9,10 @@ use lib.ListN.{length, take, drop}
 use Rattle.format.specs.Number.{numberAt, Bytes}
 use Rattle.format.specs.Header.{Image, wordAt, headerLength}
 use Rattle.format.specs.Stores.{Store, storesFrom, carryAll}
+use Rattle.format.proofs.HeaderSizes.{Start}
 use Rattle.format.proofs.StoreLists.{Each, each-none, each-more, each-all, each-in, length-carryAll}
-use Rattle.writing.specs.NewFile.{Asked, newFirst, firstBytes, setField, tableStores, firstWords, newFile}
-use Rattle.writing.proofs.NewFiles.{Granted}
+use Rattle.writing.specs.NewFile.{Asked, firstBytes, setField, tableStores, firstWords, newFile}
+use Rattle.writing.proofs.NewFiles.{Granted, granted-start}
 use Rattle.crash_states.proofs.Accepted.{Carries}
 use Rattle.next_append.specs.Next.{GivenIds}
 use Rattle.next_append.specs.Blank.{second}
@@ -48,7 +49,10 @@ clear-other first a o l (inr h) (inr c) e = omega arith
 module _ (len : ℕ) (a : Asked) (given : GivenIds a) (g : Granted len a) where
   -- where the two tables stand
   abbrev here : ℕ
-  here = newFirst a
+  here = a .size
+
+  start : Start here
+  start = granted-start g
 
   abbrev there : ℕ
   there = second here (a .dataCells)
@@ -86,7 +90,7 @@ module _ (len : ℕ) (a : Asked) (given : GivenIds a) (g : Granted len a) where
 
   -- one to the header
   to-header : (o v : ℕ) → o % 8 ≡ 0 → 88 ≤ o → o ≤ 144 → v < 2 ^ 64 → InHead (record { at = o; value = v })
-  to-header o v z l h s = (record { aligned = z; inside = omega (arith, g .start, g .room); small = s }, inl (l, h))
+  to-header o v z l h s = (record { aligned = z; inside = omega (arith, start, g .room); small = s }, inl (l, h))
 
   -- one to the data table
   to-table : (o v : ℕ) → o % 8 ≡ 0 → here ≤ o → o ≤ here + 8 → v < 2 ^ 64 → InHead (record { at = o; value = v })
@@ -95,15 +99,15 @@ module _ (len : ℕ) (a : Asked) (given : GivenIds a) (g : Granted len a) where
   -- the first ten are such stores
   in-head : Each InHead headStores
   in-head =
-      each-more (to-header 88 here refl (omega arith) (omega arith) (omega (arith, g .start)))
+      each-more (to-header 88 here refl (omega arith) (omega arith) (omega (arith, start)))
       (each-more (to-header 96 (len - here) refl (omega arith) (omega arith) (omega (arith, g .short)))
-      (each-more (to-header 136 there refl (omega arith) (omega arith) (omega (arith, g .start, g .data-cells)))
+      (each-more (to-header 136 there refl (omega arith) (omega arith) (omega (arith, start, g .data-cells)))
       (each-more (to-header 144 2 refl (omega arith) (omega arith) (omega arith))
-      (each-more (to-header 104 (here + 16) refl (omega arith) (omega arith) (omega (arith, g .start)))
+      (each-more (to-header 104 (here + 16) refl (omega arith) (omega arith) (omega (arith, start)))
       (each-more (to-header 112 (16 * a .dataCells) refl (omega arith) (omega arith) (omega (arith, g .data-cells)))
-      (each-more (to-table here 4 (g .start .aligned) (omega arith) (omega arith) (omega arith))
-      (each-more (to-table (here + 8) (16 + 16 * a .dataCells) (omega (arith, g .start)) (omega arith) (omega arith) (omega (arith, g .data-cells)))
-      (each-more (to-header 120 (there + 16) refl (omega arith) (omega arith) (omega (arith, g .start, g .data-cells)))
+      (each-more (to-table here 4 (start .aligned) (omega arith) (omega arith) (omega arith))
+      (each-more (to-table (here + 8) (16 + 16 * a .dataCells) (omega (arith, start)) (omega arith) (omega arith) (omega (arith, g .data-cells)))
+      (each-more (to-header 120 (there + 16) refl (omega arith) (omega arith) (omega (arith, start, g .data-cells)))
       (each-more (to-header 128 (16 * a .fieldCells) refl (omega arith) (omega arith) (omega (arith, g .field-cells)))
       each-none)))))))))
 
@@ -117,8 +121,8 @@ module _ (len : ℕ) (a : Asked) (given : GivenIds a) (g : Granted len a) where
 
   fields-fit : Each Fit fieldStores
   fields-fit =
-      each-more (to-fields there 5 (omega (arith, g .start)) (omega (arith, g .start)) (omega (arith, g .room)) (omega arith))
-      (each-more (to-fields (there + 8) (16 + 16 * a .fieldCells) (omega (arith, g .start)) (omega (arith, g .start)) (omega (arith, g .room)) (omega (arith, g .field-cells))) each-none)
+      each-more (to-fields there 5 (omega (arith, start)) (omega (arith, start)) (omega (arith, g .room)) (omega arith))
+      (each-more (to-fields (there + 8) (16 + 16 * a .fieldCells) (omega (arith, start)) (omega (arith, start)) (omega (arith, g .room)) (omega (arith, g .field-cells))) each-none)
 
   -- all twelve
   all-fit : (s : Store) → List·Memᴰ s (headStores ++ fieldStores) → Fit s
@@ -126,7 +130,7 @@ module _ (len : ℕ) (a : Asked) (given : GivenIds a) (g : Granted len a) where
     where
       low : Head here (s .at) → 88 ≤ s .at
       low (inl h) = h .0
-      low (inr h) = omega (arith, g .start)
+      low (inr h) = omega (arith, start)
 
       go : List·Memᴰ s headStores ⊎ List·Memᴰ s fieldStores → Fit s
       go (inl i) = let k = each-in in-head s i in (k .0, low (k .1))
@@ -184,12 +188,12 @@ module _ (len : ℕ) (a : Asked) (given : GivenIds a) (g : Granted len a) where
 
   fields-past : (o x : ℕ) → o ≤ 144 → left (fieldWordStores ++ fieldStores) o x ≡ left fieldWordStores o x
   unfolding left
-  fields-past o x l = before-second o _ (omega (arith, l, g .start))
+  fields-past o x l = before-second o _ (omega (arith, l, start))
 
   -- so that in a word of the header its own stores alone leave something
   header-word : (o x : ℕ) → o ≤ 144 → left (dataStores ++ (fieldWordStores ++ fieldStores)) o x ≡ left fieldWordStores o x
   header-word o x l =
-      left-others dataStores (fieldWordStores ++ fieldStores) o x (data-others o (omega (arith, l, g .start)))
+      left-others dataStores (fieldWordStores ++ fieldStores) o x (data-others o (omega (arith, l, start)))
       ∙ fields-past o x l
 
   -- the words of the header, each as its store says
@@ -210,29 +214,29 @@ module _ (len : ℕ) (a : Asked) (given : GivenIds a) (g : Granted len a) where
   -- the data table's type
   pub data-type : wordAt (newFile len a) here ≡ 4
   data-type =
-      word-at here (g .start .aligned)
-      ∙ left-others headerStores (dataStores ++ (fieldWordStores ++ fieldStores)) here _ (header-others here (omega (arith, g .start)))
+      word-at here (start .aligned)
+      ∙ left-others headerStores (dataStores ++ (fieldWordStores ++ fieldStores)) here _ (header-others here (omega (arith, start)))
       ∙ left-here _ _ here _ refl ∙ left-past _ _ here 4 (λ e. omega (arith, e))
-      ∙ left-others fieldWordStores fieldStores here 4 (field-word-others here (omega (arith, g .start)))
+      ∙ left-others fieldWordStores fieldStores here 4 (field-word-others here (omega (arith, start)))
       ∙ before-second here 4 (omega arith)
 
   -- and size
   pub data-long : wordAt (newFile len a) (here + 8) ≡ 16 + 16 * a .dataCells
   data-long =
-      word-at (here + 8) (omega (arith, g .start))
-      ∙ left-others headerStores (dataStores ++ (fieldWordStores ++ fieldStores)) (here + 8) _ (header-others (here + 8) (omega (arith, g .start)))
+      word-at (here + 8) (omega (arith, start))
+      ∙ left-others headerStores (dataStores ++ (fieldWordStores ++ fieldStores)) (here + 8) _ (header-others (here + 8) (omega (arith, start)))
       ∙ left-past _ _ (here + 8) _ (λ e. omega (arith, e)) ∙ left-here _ _ (here + 8) _ refl
-      ∙ left-others fieldWordStores fieldStores (here + 8) (16 + 16 * a .dataCells) (field-word-others (here + 8) (omega (arith, g .start)))
+      ∙ left-others fieldWordStores fieldStores (here + 8) (16 + 16 * a .dataCells) (field-word-others (here + 8) (omega (arith, start)))
       ∙ before-second (here + 8) (16 + 16 * a .dataCells) (omega arith)
 
   -- a word that none of the first ten is to
   word-clear : (o : ℕ) → o % 8 ≡ 0 → Clear here o → wordAt (newFile len a) o ≡ left fieldStores o 0
   word-clear o z c =
-      word-at o z ∙ left-others headStores fieldStores o _ (each-all headStores (λ s m. clear-other here (s .at) o (g .start .low) (each-in in-head s m .1) c)) ∙ ap (left fieldStores o) (first-word len a given g o (low c))
+      word-at o z ∙ left-others headStores fieldStores o _ (each-all headStores (λ s m. clear-other here (s .at) o (start .low) (each-in in-head s m .1) c)) ∙ ap (left fieldStores o) (first-word len a given g o (low c))
     where
       low : Clear here o → 88 ≤ o
       low (inl h) = omega arith
-      low (inr h) = omega (arith, g .start)
+      low (inr h) = omega (arith, start)
 
   -- before the field table
   pub zero-before : (o : ℕ) → o % 8 ≡ 0 → Clear here o → o < there → wordAt (newFile len a) o ≡ 0
@@ -246,11 +250,11 @@ module _ (len : ℕ) (a : Asked) (given : GivenIds a) (g : Granted len a) where
   -- the field table's type
   pub field-type : wordAt (newFile len a) there ≡ 5
   field-type =
-      word-clear there (omega (arith, g .start)) (inr (omega (arith, g .data-some)))
+      word-clear there (omega (arith, start)) (inr (omega (arith, g .data-some)))
       ∙ left-here _ _ there 0 refl ∙ left-past _ _ there 5 (λ e. omega (arith, e)) ∙ left-none there 5
 
   -- and size
   pub field-long : wordAt (newFile len a) (there + 8) ≡ 16 + 16 * a .fieldCells
   field-long =
-      word-clear (there + 8) (omega (arith, g .start)) (inr (omega arith))
+      word-clear (there + 8) (omega (arith, start)) (inr (omega arith))
       ∙ left-past _ _ (there + 8) 0 (λ e. omega (arith, e)) ∙ left-here _ _ (there + 8) 0 refl ∙ left-none (there + 8) (16 + 16 * a .fieldCells)

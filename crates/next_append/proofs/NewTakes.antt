@@ -1,7 +1,7 @@
 -- A new file that 20 does not refuse takes the first append and shows nothing: its words are those of two empty tables and nothing else.
-use mathlib.Core.Path.{_≡_, refl, sym, ap, _∙_, subst}
+use mathlib.Core.Path.{_≡_, refl, sym, ap, ap₂, _∙_, subst}
 use mathlib.Core.Logic.{inl, inr}
-use mathlib.Core.Bool.{false, not}
+use mathlib.Core.Bool.{Bool, true, false, not, _&&_, _||_}
 use mathlib.Core.List.{List, []}
 use Prim.Native.Nat.{ℕ, _%_}
 use native.Mathlib.Omega.{arith}
@@ -10,14 +10,15 @@ use lib.Bits.{bitAnd}
 use lib.ListN.{length}
 use Rattle.format.specs.Number.{number, numberAt}
 use Rattle.format.specs.Tests.{same}
-use Rattle.format.specs.Header.{Image, firstObject, headerId, compatibleFlags, signature, seqnumId}
+use Rattle.format.specs.Header.{Image, isHeaderSize, firstObject, headerWord, headerSize, headerId, compatibleFlags, incompatibleFlags, bootOfTail, signature, seqnumId}
 use Rattle.format.specs.Store.{bytesOf}
 use Rattle.format.specs.File.{model}
 use Rattle.format.specs.Refusal.{signatureFault, flagsFault}
-use Rattle.format.proofs.HeaderSizes.{first-least}
+use Rattle.format.proofs.HeaderSizes.{first-stored}
 use Rattle.reading.specs.View.{View, view}
-use Rattle.writing.specs.NewFile.{Asked, newFirst, firstBytes, newFile, made}
-use Rattle.writing.proofs.NewFiles.{new-first, Granted, granted-by}
+use Rattle.writing.specs.NewFile.{Asked, firstBytes, newFile, made}
+use Rattle.writing.specs.Ready.{compatibleFault, headerSizeFault}
+use Rattle.writing.proofs.NewFiles.{size-written, size-appended, Granted, granted-by}
 use Rattle.next_append.specs.Next.{TakesAppends, GivenIds, showsNothing, New}
 use Rattle.next_append.specs.Blank.{Blank}
 use Rattle.next_append.proofs.FirstBytes.{first-flags, first-seqnum-id}
@@ -30,16 +31,46 @@ module _ (len : ℕ) (a : Asked) (given : GivenIds a) (g : Granted len a) where
   unfolding signatureFault firstBytes signature same
   signed = ap (λ (l : List ℕ). not (same l signature)) (first-part len a given g 8 0 (omega arith))
 
+  -- the flags of the new file
+  flags-are : (compatibleFlags (newFile len a) ≡ elim (eqb (a .size) 272) [ true ↦ 2 | false ↦ 0 ]) × (bitAnd (incompatibleFlags (newFile len a)) 0xfffffffb ≡ 0)
+  flags-are =
+      let f = first-flags len a (a .keyed) refl (g .flag) (eqb (a .size) 272) refl in (
+        first-number len a given g 4 8 (omega arith) ∙ f .0,
+        ap (λ (n : ℕ). bitAnd n 0xfffffffb) (first-number len a given g 4 12 (omega arith)) ∙ f .1,
+      )
+
   -- 4
   flags : flagsFault (newFile len a) ≡ false
   unfolding flagsFault
-  flags =
-      ap (λ (n : ℕ). not (eqb (bitAnd n 0xfffffffb) 0)) (first-number len a given g 4 12 (omega arith))
-      ∙ ap (λ (n : ℕ). not (eqb n 0)) (first-flags len a (a .keyed) refl (g .flag) .1)
+  flags = ap (λ (n : ℕ). not (eqb n 0)) (flags-are .1)
 
-  -- 12
-  compatible : compatibleFlags (newFile len a) ≡ 0
-  compatible = first-number len a given g 4 8 (omega arith) ∙ first-flags len a (a .keyed) refl (g .flag) .0
+  -- header_size
+  size-is : headerWord (newFile len a) headerSize ≡ a .size
+  size-is = header-words len a given g .0
+
+  -- 12: bit 1 is set, and it is set with 272 alone
+  compatible : compatibleFault (newFile len a) ≡ false
+  unfolding compatibleFault bootOfTail
+  compatible = rw (flags-are .0, size-is) (go (eqb (a .size) 272))
+    where
+      go : (long : Bool)
+          → (not (eqb (bitAnd (elim long as (λ _. ℕ) [ true ↦ 2 | false ↦ 0 ]) 0xfffffffd) 0) || (not (eqb (bitAnd (elim long as (λ _. ℕ) [ true ↦ 2 | false ↦ 0 ]) 2) 0) && not long)) ≡ false
+      go true = refl
+      go false = refl
+
+  -- 25
+  sized : headerSizeFault (newFile len a) ≡ false
+  unfolding headerSizeFault
+  sized = rw size-is (size-appended (a .size) (g .size))
+
+  -- the boot id is the tail entry's exactly with 272
+  boot-of-tail : bootOfTail (newFile len a) ≡ eqb (a .size) 272
+  unfolding bootOfTail
+  boot-of-tail = rw (flags-are .0) (go (eqb (a .size) 272))
+    where
+      go : (long : Bool) → not (eqb (bitAnd (elim long as (λ _. ℕ) [ true ↦ 2 | false ↦ 0 ]) 2) 0) ≡ long
+      go true = refl
+      go false = refl
 
   -- 13
   offline : numberAt 8 (newFile len a) 16 ≡ 0
@@ -47,8 +78,11 @@ module _ (len : ℕ) (a : Asked) (given : GivenIds a) (g : Granted len a) where
   offline = first-number len a given g 8 16 (omega arith)
 
   -- the first object starts at the header's end
-  first-is : firstObject (newFile len a) ≡ newFirst a
-  first-is = first-least (newFile len a) (header-words len a given g .0 ∙ new-first a) ∙ sym (new-first a)
+  written : isHeaderSize (headerWord (newFile len a) headerSize) ≡ true
+  written = rw size-is (size-written (a .size) (g .size))
+
+  first-is : firstObject (newFile len a) ≡ a .size
+  first-is = first-stored (newFile len a) written ∙ size-is
 
   -- two empty tables and nothing else
   blank : Blank (newFile len a) (a .dataCells) (a .fieldCells)
@@ -67,7 +101,8 @@ module _ (len : ℕ) (a : Asked) (given : GivenIds a) (g : Granted len a) where
         flags = flags;
         compatible = compatible;
         offline = offline;
-        header = w .0 ∙ new-first a;
+        header = written;
+        sized = sized;
         arena = omega (arith, w .1, f, l);
         dataAt = omega (arith, w .2, f);
         dataSize = w .3;
@@ -84,13 +119,13 @@ module _ (len : ℕ) (a : Asked) (given : GivenIds a) (g : Granted len a) where
         fieldEmpty = λ o z h. zero-after len a given g o z (omega (arith, h, f));
       }
 
-  -- nothing is shown, under the seqnum id as given
+  -- nothing is shown, under the seqnum id as given, and the boot id as the bit says
   shows : view (model (newFile len a)) ≡ showsNothing a
   unfolding headerId
-  shows = blank-shows blank ∙ ap (λ (i : List ℕ). showing i) (first-part len a given g 16 72 (omega arith) ∙ first-seqnum-id len a given g)
+  shows = blank-shows blank ∙ ap₂ (λ (i : List ℕ) (b : Bool). showing i b) (first-part len a given g 16 72 (omega arith) ∙ first-seqnum-id len a given g) boot-of-tail
     where
-      showing : List ℕ → View
-      showing i = record { entries = []; payloads = []; seqnumId = i; foreign = [] }
+      showing : List ℕ → Bool → View
+      showing i b = record { entries = []; payloads = []; seqnumId = i; foreign = []; bootOfTail = b }
 
   -- of the new file
   takes : TakesAppends (newFile len a) × (view (model (newFile len a)) ≡ showsNothing a)

@@ -1,11 +1,12 @@
 -- An image that holds a header and two tables with empty cells and nothing else, by its words: what a new file is.
 use mathlib.Core.Path.{_≡_}
-use mathlib.Core.Bool.{false}
+use mathlib.Core.Bool.{true, false}
 use Prim.Native.Nat.{ℕ, _+_, _*_, _-_, _%_, _≤_, _<_}
 use lib.ListN.{length}
 use Rattle.format.specs.Number.{Bytes}
-use Rattle.format.specs.Header.{Image, wordAt, headerLength, firstObject, headerWord, compatibleFlags, state, headerSize, arenaSize, dataTableOffset, dataTableSize, fieldTableOffset, fieldTableSize, tailObjectOffset, nObjects}
+use Rattle.format.specs.Header.{Image, wordAt, isHeaderSize, firstObject, headerWord, state, headerSize, arenaSize, dataTableOffset, dataTableSize, fieldTableOffset, fieldTableSize, tailObjectOffset, nObjects}
 use Rattle.format.specs.Refusal.{signatureFault, flagsFault}
+use Rattle.writing.specs.Ready.{compatibleFault, headerSizeFault}
 
 -- where the field table stands, after a data table of so many cells that is the first object
 abbrev pub second : ℕ → ℕ → ℕ
@@ -19,12 +20,13 @@ pub record Blank (img : Image) (dataCells fieldCells : ℕ) : Type 0 where
   pub dataSome : 1 ≤ dataCells
   pub fieldSome : 1 ≤ fieldCells
   pub room : second (firstObject img) dataCells + 16 + 16 * fieldCells ≤ length img
-  -- the header: "signature .., bit 2 if keyed, header and arena size, the table offsets and sizes, tail_object_offset, n_objects"
+  -- the header: "signature .., bit 2 if keyed", bit 1 with 272, "header and arena size, the table offsets and sizes, tail_object_offset, n_objects"
   pub signed : signatureFault img ≡ false
   pub flags : flagsFault img ≡ false
-  pub compatible : compatibleFlags img ≡ 0
+  pub compatible : compatibleFault img ≡ false
   pub offline : headerWord img state ≡ 0
-  pub header : headerWord img headerSize ≡ headerLength
+  pub header : isHeaderSize (headerWord img headerSize) ≡ true
+  pub sized : headerSizeFault img ≡ false
   pub arena : headerWord img arenaSize ≡ length img - firstObject img
   pub dataAt : headerWord img dataTableOffset ≡ firstObject img + 16
   pub dataSize : headerWord img dataTableSize ≡ 16 * dataCells

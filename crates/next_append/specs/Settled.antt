@@ -1,16 +1,17 @@
 -- What an append leaves in the words that no lookup reads and 14 looks at: the header's counters, the facts of the first and the last
--- entry, and the tails of cells. F is the file before it and F′ the file after it.
+-- entry, those that a longer header has, and the tails of cells. F is the file before it and F′ the file after it.
 use mathlib.Core.Path.{_≡_}
+use mathlib.Core.Bool.{true}
 use mathlib.Core.List.{List, [], _∷_}
 use Prim.Native.Nat.{ℕ, _+_, _<_}
 use lib.ListN.{length}
-use Rattle.format.specs.Header.{nObjects, nEntries, tailEntrySeqnum, headEntrySeqnum, headEntryRealtime, tailEntryRealtime, tailEntryMonotonic, nData, nFields, nTags, nEntryArrays}
+use Rattle.format.specs.Header.{tailEntryArray, tailEntryOffset, entryArrayOffset, nObjects, nEntries, tailEntrySeqnum, headEntrySeqnum, headEntryRealtime, tailEntryRealtime, tailEntryMonotonic, nData, nFields, nTags, nEntryArrays}
 use Rattle.format.specs.Kinds.{Table, dataTable, fieldTable}
-use Rattle.format.specs.File.{File, header, cellTail}
+use Rattle.format.specs.File.{File, hasLate, header, late, cellTail}
 use Rattle.writing.specs.Request.{Request}
-use Rattle.writing.specs.Placing.{placed}
-use Rattle.writing.specs.Growth.{grown, newArrays}
-use Rattle.writing.specs.Plan.{newCount}
+use Rattle.writing.specs.Placing.{placed, newEntryAt}
+use Rattle.writing.specs.Growth.{grown, newArrays, afterEntry}
+use Rattle.writing.specs.Plan.{newCount, tailArrayAfter}
 use Rattle.partial_append.specs.Growing.{newInCell}
 use Rattle.partial_append.specs.Extends.{Stays}
 use Rattle.plan_words.specs.Course.{Finished}
@@ -51,3 +52,7 @@ pub record Settled (F F′ : File) (r : Request) : Type 0 where
   pub tailMonotonic : F′ .read (header tailEntryMonotonic) ≡ r .stamp .monotonic
   pub headFirst : F .read (header nEntries) ≡ 0 → (F′ .read (header headEntrySeqnum) ≡ r .stamp .seqnum) × (F′ .read (header headEntryRealtime) ≡ r .stamp .realtime)
   pub headLater : (F .read (header nEntries) ≡ 0 → ⊥) → Stays F F′ (header headEntrySeqnum) × Stays F F′ (header headEntryRealtime)
+  -- (6) "in 272 the three fields"
+  pub lateArray : hasLate F tailEntryArray ≡ true
+      → F′ .read (late tailEntryArray) ≡ tailArrayAfter F (afterEntry F (r .fields)) (header entryArrayOffset) (F .read (header nEntries))
+  pub lateOffset : hasLate F tailEntryOffset ≡ true → F′ .read (late tailEntryOffset) ≡ newEntryAt F (r .fields)

@@ -65,6 +65,7 @@ fn new_files() {
             data_cells,
             field_cells,
             keyed: 1,
+            header_size: 256,
             file_id: [1; 16],
             machine_id: [2; 16],
             boot_id: [3; 16],
@@ -76,7 +77,7 @@ fn new_files() {
         let mut other = one.clone();
         let times = measure_long(
             60,
-            || raw::new(black_box(&mut one), ids, data_cells, field_cells, 1),
+            || raw::new(black_box(&mut one), ids, data_cells, field_cells, 1, 256),
             || plain(black_box(&mut other), black_box(&new)),
         );
         assert!(one == other);

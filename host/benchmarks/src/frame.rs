@@ -6,8 +6,11 @@ use checks::generator::frame::{frame as framed_image, set};
 use checks::generator::mutation::untargeted;
 use checks::random::Random;
 use measured::framed;
-use reading::layout::{header, FIRST_OBJECT, MOST_BYTES};
+use reading::layout::{header, MOST_BYTES};
 use std::hint::black_box;
+
+/// Where the objects of a frame start.
+const FIRST_OBJECT: u64 = 256;
 
 struct Full {
     label: String,

@@ -22,6 +22,7 @@ impl Objects {
             data_cells,
             field_cells,
             keyed: u64::from(keyed),
+            header_size: 256,
             file_id: FILE_ID,
             machine_id: [2; 16],
             boot_id: [3; 16],

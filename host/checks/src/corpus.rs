@@ -7,8 +7,8 @@ pub const FILES: [(&str, u64); 7] = [
     ("bullseye-k1-c0-online", 0),
     ("bullseye-k1-c0-system-archived", 0),
     ("sealed-bullseye-c0-system", 0),
-    ("bookworm-k1-c0-system", 5),
-    ("trixie-k1-c0-system", 5),
+    ("bookworm-k1-c0-system", 0),
+    ("trixie-k1-c0-system", 0),
     ("trixie-k1-c1-system", 4),
 ];
 

@@ -69,7 +69,7 @@ fn all_of_a_stream() {
 /// An append of so many fields of so many bytes to a new file.
 fn asked<T>(count: usize, len: usize, with: impl Fn(&mut [u8], &Request) -> T) -> T {
     let mut image = vec![0; 1 << 20];
-    new(&mut image, &[7; 64], 64, 8, true).expect("it is made");
+    new(&mut image, &[7; 64], 64, 8, true, 256).expect("it is made");
     let mut fields = Fields::new();
     for place in 0..count {
         let name = format!("F{place}");

@@ -10,7 +10,7 @@ const STACK: usize = 13 * (1 << 20) / 10;
 fn all_calls(keyed: bool) {
     let mut image = vec![0; 65_536];
     let mut list = [0; 16 * 100];
-    assert_eq!(wrapper::new(&mut image, &[2; 64], 1, 1, keyed), Ok(()));
+    assert_eq!(wrapper::new(&mut image, &[2; 64], 1, 1, keyed, 256), Ok(()));
     for (seqnum, fields) in [(1, first()), (2, second())] {
         let request = Request {
             machine: &[2; 16],

@@ -188,7 +188,7 @@ fn refusals() {
         same_foreign(&image);
     }
     let mut image = [0; 312];
-    let made = wrapper::new(&mut image, &[0; 64], 1, 1, false);
+    let made = wrapper::new(&mut image, &[0; 64], 1, 1, false, 256);
     assert_eq!(made.map_err(Refusal::number), Err(20));
     let carried = wrapper::carry_out(&mut image, &[], 1);
     assert_eq!(carried.map_err(Refusal::number), Err(21));
@@ -198,9 +198,10 @@ fn refusals() {
 #[test]
 fn words() {
     assert_eq!(Refusal::new(0), None);
-    let all = (1..=21).map(|number| Refusal::new(number).expect("not 0"));
+    let numbers = Vec::from_iter((1..=21).chain([25]));
+    let all = numbers.iter().map(|&it| Refusal::new(it).expect("not 0"));
     let all: Vec<Refusal> = all.collect();
-    for (refusal, number) in all.iter().zip(1..) {
+    for (refusal, &number) in all.iter().zip(&numbers) {
         assert_eq!(refusal.number(), number);
         let (sentence, row) = (refusal.sentence(), refusal.row());
         let line = format!("{sentence} (refusal {number}: {row})");

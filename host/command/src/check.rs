@@ -1,11 +1,11 @@
-//! `check`: whether a file can be read, whether it takes appends, how much room is left in it, and
-//! what was walked over.
+//! `check`: whether a file can be read, whether it takes appends, how much room is left in it, what
+//! its header is, and what was walked over.
 use crate::fault::Fault;
 use crate::text::counted;
 use crate::{files, foreign, ids};
 use std::io::Write;
 use std::path::Path;
-use wrapper::{Entry, Planned, Request};
+use wrapper::{BootMeaning, Entry, Planned, Refusal, Request};
 
 pub fn check(file: &Path, out: &mut impl Write) -> Result<(), Fault> {
     let image = files::read(file)?;
@@ -18,9 +18,29 @@ pub fn check(file: &Path, out: &mut impl Write) -> Result<(), Fault> {
         Some(why) => format!("takes no append: {why}"),
     };
     let room = room.words(entries.len() as u64);
+    let header = header(&image).map_err(refused)?;
     let foreign = foreign::words(&image).map_err(refused)?;
     let foreign = foreign.map_or(String::new(), |words| format!("{words}\n"));
-    write!(out, "opens, {count}\n{appends}\n{room}\n{foreign}").map_err(Fault::answer)
+    let lines = format!("opens, {count}\n{appends}\n{room}\n{header}\n{foreign}");
+    out.write_all(lines.as_bytes()).map_err(Fault::answer)
+}
+
+/// The 64-bit number at a place of a file that opens.
+fn word(image: &[u8], at: u64) -> u64 {
+    let bytes = &image[at as usize..][..8];
+    u64::from_le_bytes(bytes.try_into().expect("8 bytes"))
+}
+
+/// How long the header is, and what its boot id means. Nothing says that the id is right.
+fn header(image: &[u8]) -> Result<String, Refusal> {
+    let boot = match wrapper::boot_meaning(image)? {
+        BootMeaning::OfTailEntry => "it says that its boot id is that of the last entry",
+        BootMeaning::OfLastWriter => "its boot id need not be that of the last entry",
+    };
+    Ok(format!(
+        "header: {} bytes; {boot}",
+        word(image, HEADER_SIZE)
+    ))
 }
 
 /// What keeps any entry from being appended, if something does: the library is asked for the stores
@@ -56,6 +76,8 @@ fn of_another_machine(image: &[u8]) -> String {
 
 /// An ENTRY with one item.
 const SMALLEST_ENTRY: u64 = 80;
+/// Where the header has its own size.
+const HEADER_SIZE: u64 = 88;
 
 /// The arena of a file that opens, by its header.
 struct Room {
@@ -67,16 +89,13 @@ struct Room {
 
 impl Room {
     fn of(image: &[u8]) -> Room {
-        let word = |at: u64| {
-            let bytes = &image[at as usize..][..8];
-            u64::from_le_bytes(bytes.try_into().expect("8 bytes"))
-        };
+        let word = |at| word(image, at);
         let (arena, tail) = (word(96), word(136));
         let end = tail + word(tail + 8).next_multiple_of(8);
         let tables = (word(104) + word(112)).max(word(120) + word(128));
         Room {
             arena,
-            left: 256 + arena - end,
+            left: word(HEADER_SIZE) + arena - end,
             used: end - tables,
         }
     }

@@ -18,7 +18,7 @@ mod status {
     pub const TYPED_WRONGLY: u8 = 2;
     /// The file can't be read: 1 to 11.
     pub const UNREADABLE: u8 = 3;
-    /// The file or the entry is not one to append, the new file not one to make: 12 to 17, 20.
+    /// The file or the entry is not one to append, the new file not one to make: 12 to 17, 20, 25.
     pub const NOT_TAKEN: u8 = 4;
     /// There is no room in the file: 18.
     pub const FULL: u8 = 5;

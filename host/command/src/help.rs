@@ -139,7 +139,8 @@ A line can be given back: find FILE --field \"NAME=$line\" (read it by read -r).
         "check",
         "\
 check FILE: whether the file can be read, and else why not, with status 3; then
-whether it takes appends, and else why not; how much room is left in it; and
+whether it takes appends, and else why not; how much room is left in it; how
+long its header is, and whether the boot id there is that of the last entry; and
 where it has foreign objects, how many and of which types, up to 100 of them
 ",
     ),
@@ -166,6 +167,8 @@ new FILE: makes a file, and never overwrites one
   --data-cells N, --field-cells N
                          the cells of its hash tables
   --unkeyed              with the hash of older files
+  --header-size N        256, or 272 as systemd 254 and later have it; 256 if
+                         not given: journalctl 252 verifies none with 272
   --machine ID, --boot ID
                          in place of this machine's; 32 hexadecimal digits
   --seqnum-id ID         the id that its entries are numbered under, to go on

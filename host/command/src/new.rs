@@ -12,17 +12,24 @@ pub struct Wish {
     pub data_cells: Option<u64>,
     pub field_cells: Option<u64>,
     pub unkeyed: bool,
+    /// In bytes.
+    pub header_size: Option<u64>,
     pub machine: Option<Id>,
     pub boot: Option<Id>,
     /// Files of one such id go on with each other's sequence numbers.
     pub seqnum_id: Option<Id>,
 }
 
+/// A longer header goes with compatible bit 1, and journalctl of systemd 252 verifies no file that
+/// has it.
+const HEADER_SIZE: u64 = 256;
+
 pub fn new(path: &Path, wish: &Wish, manner: &Manner) -> Result<(), Fault> {
     let size = wish.size.unwrap_or(LONGEST_IMAGE);
     // A cell for each KiB, and one for a field for each 16: some hundredth of the file.
     let data_cells = wish.data_cells.unwrap_or((size / 1_024).max(1));
     let field_cells = wish.field_cells.unwrap_or((size / 16_384).max(1));
+    let header_size = wish.header_size.unwrap_or(HEADER_SIZE);
     let machine = wish.machine.map_or_else(ids::machine, Ok)?;
     let boot = wish.boot.map_or_else(ids::boot, Ok)?;
     let file_id = ids::random()?;
@@ -34,18 +41,31 @@ pub fn new(path: &Path, wish: &Wish, manner: &Manner) -> Result<(), Fault> {
 
     // A length above the greatest is refused like the first of them.
     let mut image = vec![0; size.min(LONGEST_IMAGE + 8) as usize];
-    wrapper::new(&mut image, &all, data_cells, field_cells, !wish.unkeyed).map_err(|refusal| {
-        match why_new::of(size, data_cells, field_cells) {
+    let made = wrapper::new(
+        &mut image,
+        &all,
+        data_cells,
+        field_cells,
+        !wish.unkeyed,
+        header_size,
+    );
+    made.map_err(
+        |refusal| match why_new::of(size, data_cells, field_cells, header_size) {
             Some(why) => Fault::because(path, refusal, &why),
             None => Fault::refused(path, refusal),
-        }
-    })?;
+        },
+    )?;
     signals::held(|| {
         fresh::kept(path, &image, fresh::MODE)?;
         let hash = if wish.unkeyed { "unkeyed" } else { "keyed" };
+        // Of the header only what was not to be expected.
+        let header = match header_size {
+            HEADER_SIZE => String::new(),
+            other => format!(", a header of {other} bytes"),
+        };
         let words = format!(
-            "made, {size} bytes, {data_cells} data cells, {field_cells} field cells, {hash}, file \
-             id {}",
+            "made, {size} bytes, {data_cells} data cells, {field_cells} field cells, \
+             {hash}{header}, file id {}",
             ids::shown(&file_id)
         );
         done::say(manner, &words);

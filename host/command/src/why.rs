@@ -77,7 +77,8 @@ impl Append<'_> {
             |at: usize| u64::from_le_bytes(self.image[at..at + 8].try_into().expect("8 bytes"));
         let tail = word(136);
         let used = tail + word(tail as usize + 8).next_multiple_of(8);
-        let left = 256 + word(96) - used.min(256 + word(96));
+        let end = word(88) + word(96);
+        let left = end - used.min(end);
         let id: &[u8; 16] = self.image[72..88].try_into().expect("16 bytes");
         format!(
             "the file is full, {left} bytes are left: go on in a new one, made with --seqnum-id {}, \

@@ -67,37 +67,43 @@ impl Header {
     fn size(&self) -> Option<String> {
         let [header, arena] = [88, 96].map(|at| self.word(at));
         let end = u128::from(header) + u128::from(arena);
-        let bytes = format!("its header has {header} bytes and 256 are read here");
+        let bytes = format!("its header has {header} bytes, and 256, 264 or 272 are read here");
         match header {
-            257..=512 => Some(format!(
-                "the file was written by a newer systemd, {bytes}: use journalctl for it"
-            )),
-            208..=255 => Some(format!(
-                "the file was written by an older systemd, {bytes}: use journalctl for it"
-            )),
-            256 if arena % 8 != 0 => Some(format!(
+            256 | 264 | 272 if arena % 8 != 0 => Some(format!(
                 "the file is damaged, its arena_size of {arena} is no multiple of 8: restore it \
                  from a copy"
             )),
-            256 if end > u128::from(self.length) => Some(format!(
+            256 | 264 | 272 if end > u128::from(self.length) => Some(format!(
                 "the end of the file is missing, it has {} bytes of {end}: restore it from a copy",
                 self.length
             )),
-            256 => None,
+            256 | 264 | 272 => None,
+            // A field more has eight bytes.
+            280..=512 if header % 8 == 0 => Some(format!(
+                "the file was written by a newer systemd, {bytes}: use journalctl for it"
+            )),
+            208..=248 if header % 8 == 0 => Some(format!(
+                "the file was written by an older systemd, {bytes}: use journalctl for it"
+            )),
             _ => Some(format!(
-                "the file is damaged, its header_size is {header} and not 256: restore it from a \
-                 copy"
+                "the file is damaged, its header_size is {header} and not 256, 264 or 272: restore \
+                 it from a copy"
             )),
         }
     }
 
-    /// 12: compatible bits.
+    /// 12: compatible bits. journald sets bit 1 in headers of 272 bytes, where it is no hindrance.
     fn feature(&self) -> Option<String> {
         let rest = "it can be read, append to a new file";
+        let header = self.word(88);
         match self.flags(8) {
             0 => None,
+            2 if header == 272 => None,
             flags if flags & (1 | 4) != 0 => Some(format!(
                 "the file is sealed, and an append would break the seal: {rest}"
+            )),
+            2 => Some(format!(
+                "the file has a flag of headers of 272 bytes, and its header has {header}: {rest}"
             )),
             _ => Some(format!(
                 "the file has a feature of a newer systemd that an append would break: {rest}"

@@ -1,14 +1,15 @@
-//! Why a new file is refused, 20: the size or the cells.
+//! Why a new file is refused, 20: the size, the cells or the header.
 use crate::text::counted;
 use wrapper::LONGEST_IMAGE;
 
-/// The header, and the two tables without their cells; a cell has 16 bytes.
-const WITHOUT_CELLS: u64 = 256 + 2 * 16;
+/// The two tables without their cells; a cell has 16 bytes.
+const WITHOUT_CELLS: u64 = 2 * 16;
+const HEADER_SIZES: [u64; 2] = [256, 272];
 const MOST_DATA_CELLS: u64 = 65_536;
 const MOST_FIELD_CELLS: u64 = 1_024;
 
 /// A sentence for a person; none where nothing is the matter.
-pub fn of(size: u64, data_cells: u64, field_cells: u64) -> Option<String> {
+pub fn of(size: u64, data_cells: u64, field_cells: u64, header_size: u64) -> Option<String> {
     let cells = |option: &str, count: u64, most: u64| {
         let wrong = !(1..=most).contains(&count);
         wrong.then(|| format!("{option} {count}: a file has 1 to {most} of them"))
@@ -24,7 +25,14 @@ pub fn of(size: u64, data_cells: u64, field_cells: u64) -> Option<String> {
     cells("--data-cells", data_cells, MOST_DATA_CELLS)
         .or_else(|| cells("--field-cells", field_cells, MOST_FIELD_CELLS))
         .or_else(|| {
-            let need = WITHOUT_CELLS + 16 * (data_cells + field_cells);
+            let [short, long] = HEADER_SIZES;
+            let wrong = !HEADER_SIZES.contains(&header_size);
+            wrong.then(|| {
+                format!("--header-size {header_size}: a file is made with {short} or {long}")
+            })
+        })
+        .or_else(|| {
+            let need = header_size + WITHOUT_CELLS + 16 * (data_cells + field_cells);
             let [data, field] =
                 [(data_cells, "data"), (field_cells, "field")].map(|(count, kind)| {
                     counted(

@@ -1,17 +1,29 @@
-//! Refusals 12 to 15 and 17: whether an append may be made to an image.
+//! Refusals 12 to 15, 17 and 25: whether an append may be made to an image.
 use std::collections::BTreeMap;
 
 use super::committed::{committed, counted, last_committed};
 use super::image::{id, le32, name_of, Image, Object};
 use super::index::{cell_of, field_list, on_chain, Index};
-use super::layout::{array, data, entry, header, kind};
+use super::layout::{array, data, entry, header, kind, TAIL_ENTRY_BOOT_ID};
 use super::refusal::clause::*;
 use super::request::Request;
+use super::tail::late_fields;
 
-/// 12: "any compatible bit set"
+/// 12: any compatible bit set, but "no longer for bit 1 with 272"
 pub fn twelve(image: &Image, found: &mut Vec<Clause>) {
-    if le32(image.bytes, header::COMPATIBLE_FLAGS) != 0 {
+    let compatible_flags = le32(image.bytes, header::COMPATIBLE_FLAGS);
+    if compatible_flags & !TAIL_ENTRY_BOOT_ID != 0 {
         found.push(COMPATIBLE_BIT);
+    }
+    if compatible_flags & TAIL_ENTRY_BOOT_ID != 0 && image.header_size() != 272 {
+        found.push(BOOT_BIT_WITHOUT_272);
+    }
+}
+
+/// 25: "for an append to 264, straight after 12"
+pub fn twenty_five(image: &Image, found: &mut Vec<Clause>) {
+    if image.header_size() == 264 {
+        found.push(HEADER_OF_264);
     }
 }
 
@@ -27,6 +39,7 @@ pub fn fourteen(image: &Image, found: &mut Vec<Clause>) {
     let index = Index::of(image);
     counters(image, found);
     facts(image, found);
+    late_fields(image, found);
     cell_tails(
         image,
         kind::DATA_HASH_TABLE,

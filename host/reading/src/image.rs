@@ -3,7 +3,7 @@
 //! "Numbers are unsigned and little-endian, 64 bits unless said."
 use std::collections::BTreeMap;
 
-use super::layout::{array, data, entry, field, header, kind, table, FIRST_OBJECT, KEYED_HASH};
+use super::layout::{array, data, entry, field, header, kind, table, KEYED_HASH};
 use super::{lookup3::hashlittle2, siphash::siphash24};
 
 /// The 64-bit number at a place.
@@ -30,9 +30,15 @@ pub fn id(bytes: &[u8], at: u64) -> [u8; 16] {
     value
 }
 
+/// "objects start at the header's end": where the first one stands, which only means something
+/// where 5 lets the header's size pass.
+pub fn first_object(bytes: &[u8]) -> u64 {
+    le64(bytes, header::HEADER_SIZE)
+}
+
 /// The end of the arena as the mathematical sum, which never wraps.
 pub fn arena_end(bytes: &[u8]) -> u128 {
-    le64(bytes, header::HEADER_SIZE) as u128 + le64(bytes, header::ARENA_SIZE) as u128
+    first_object(bytes) as u128 + le64(bytes, header::ARENA_SIZE) as u128
 }
 
 /// An object: "type, flags, 6 reserved bytes, then size at 8".
@@ -62,7 +68,7 @@ impl Object {
     }
 }
 
-/// An image that passes refusals 1 to 6, with its objects from 256 up to and
+/// An image that passes refusals 1 to 6, with its objects from the header's end up to and
 /// including the one at tail_object_offset.
 pub struct Image<'a> {
     pub bytes: &'a [u8],
@@ -76,7 +82,7 @@ impl<'a> Image<'a> {
         let tail_object_offset = le64(bytes, header::TAIL_OBJECT_OFFSET);
         let mut objects = Vec::new();
         let mut by_offset = BTreeMap::new();
-        let mut offset = FIRST_OBJECT;
+        let mut offset = first_object(bytes);
         while offset <= tail_object_offset {
             let object = Object::read(bytes, offset);
             objects.push(object);
@@ -92,6 +98,10 @@ impl<'a> Image<'a> {
 
     pub fn word(&self, at: u64) -> u64 {
         le64(self.bytes, at)
+    }
+
+    pub fn header_size(&self) -> u64 {
+        self.word(header::HEADER_SIZE)
     }
 
     /// The walked object at an offset, if one starts there.

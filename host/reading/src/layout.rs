@@ -2,12 +2,14 @@
 
 /// "The file opens with the eight bytes `LPKSHHRH`."
 pub const SIGNATURE: [u8; 8] = *b"LPKSHHRH";
-/// "Objects follow from 256."
-pub const FIRST_OBJECT: u64 = 256;
+/// "Header sizes 256, 264 and 272 are read"
+pub const HEADER_SIZES: [u64; 3] = [256, 264, 272];
 /// "more than 8,388,608 bytes"
 pub const MOST_BYTES: u64 = 8_388_608;
-/// "bit 2", the keyed hash.
+/// "bit 2" of the incompatible ones, the keyed hash.
 pub const KEYED_HASH: u32 = 1 << 2;
+/// "bit 1" of the compatible ones: the boot id at 56 is the tail entry's.
+pub const TAIL_ENTRY_BOOT_ID: u32 = 1 << 1;
 
 /// Where the header's fields stand.
 pub mod header {
@@ -39,6 +41,12 @@ pub mod header {
     pub const N_ENTRY_ARRAYS: u64 = 232;
     pub const DATA_HASH_CHAIN_DEPTH: u64 = 240;
     pub const FIELD_HASH_CHAIN_DEPTH: u64 = 248;
+    /// 32 bits, in a header of 264 and 272.
+    pub const TAIL_ENTRY_ARRAY_OFFSET: u64 = 256;
+    /// 32 bits, in a header of 264 and 272.
+    pub const TAIL_ENTRY_ARRAY_N_ENTRIES: u64 = 260;
+    /// In a header of 272.
+    pub const TAIL_ENTRY_OFFSET: u64 = 264;
 }
 
 /// The types of objects.

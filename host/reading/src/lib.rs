@@ -1,6 +1,7 @@
 //! The rules and the published hashes once more, written from the documents in plain Rust.
 pub mod after;
 pub mod ask;
+pub mod boot;
 pub mod carry;
 pub mod committed;
 pub mod fit;
@@ -20,3 +21,4 @@ pub mod refusal;
 pub mod request;
 pub mod room;
 pub mod siphash;
+pub mod tail;

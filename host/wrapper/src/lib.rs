@@ -8,6 +8,7 @@
 //!
 //! `raw` has the calls with the numbers that the archive answers, and makes all `unsafe` calls into
 //! it.
+mod boot;
 mod call;
 mod entries;
 mod fields;
@@ -24,6 +25,7 @@ mod stream;
 mod syncs;
 mod turning;
 
+pub use boot::{boot_meaning, BootMeaning};
 pub use entries::{entries, Entries};
 pub use fields::Fields;
 pub use foreign::{foreign, foreign_objects, Foreign, ForeignObjects};

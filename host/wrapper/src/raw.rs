@@ -6,10 +6,12 @@
 //! SAFETY of each call: as `call` has it. `read` and `array` arguments are only read.
 #![allow(unsafe_code)]
 
+mod boot;
 mod foreign;
 mod merged;
 
 use crate::call;
+pub use boot::{boot_meaning, BootMeaning};
 pub use foreign::{foreign, Foreign};
 pub use merged::{merged, merged_item, page_merged, Merged, MergedPage, MergedPart};
 
@@ -143,12 +145,21 @@ pub fn page_values(image: &[u8], name: &[u8], place: u64, page: &mut [u8]) -> Pa
 }
 
 /// Makes a new file of all of `image`, with file, machine, boot and seqnum id one after the other
-/// in `ids`, keyed by 1 and not by 0: 0; or 20, and no byte changes.
+/// in `ids`, keyed by 1 and not by 0, with a header of 256 or 272 bytes: 0; or 20, and no byte
+/// changes.
 #[inline]
-pub fn new(image: &mut [u8], ids: &[u8; 64], data_cells: u64, field_cells: u64, keyed: u64) -> u64 {
+pub fn new(
+    image: &mut [u8],
+    ids: &[u8; 64],
+    data_cells: u64,
+    field_cells: u64,
+    keyed: u64,
+    header_size: u64,
+) -> u64 {
     unsafe {
         call!(journal_new(
-            write image, array ids, number data_cells, number field_cells, number keyed
+            write image, array ids, number data_cells, number field_cells, number keyed,
+            number header_size
         ) -> u64)
     }
 }

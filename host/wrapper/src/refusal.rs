@@ -3,8 +3,8 @@ use crate::rows::ROWS;
 use std::fmt::{Display, Formatter};
 use std::num::NonZeroU64;
 
-/// Why a call is refused: a number of the rules' tables, 1 to 21. It is an error with words, so that `?`
-/// hands it on and a host can print it as it is.
+/// Why a call is refused: a number of the rules' tables, 1 to 21 or 25. It is an error with words, so
+/// that `?` hands it on and a host can print it as it is.
 ///
 /// ```
 /// let refusal = wrapper::open(b"no journal").expect_err("it is too short");
@@ -49,8 +49,8 @@ impl Refusal {
 
     fn words(self) -> (&'static str, &'static str) {
         let unknown = ("refused", "a number that the rules do not have");
-        let words = ROWS.get(self.number() as usize - 1);
-        words.copied().unwrap_or(unknown)
+        let row = ROWS.iter().find(|&&(number, ..)| number == self.number());
+        row.map_or(unknown, |&(_, sentence, row)| (sentence, row))
     }
 }
 

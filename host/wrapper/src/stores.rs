@@ -5,7 +5,7 @@ use crate::refusal::Refusal;
 /// What an append says.
 #[derive(Clone, Copy, Debug, PartialEq, Eq)]
 pub enum Planned {
-    /// 1 to 18, and the list is as it was.
+    /// 1 to 18 or 25, and the list is as it was.
     Refused(Refusal),
     /// 19: the list has fewer whole stores than `need`, and is as it was.
     TooShort { need: u64 },
@@ -25,16 +25,24 @@ impl Planned {
 }
 
 /// Makes a new file of all of `image`, with file, machine, boot and seqnum id one after the other
-/// in `ids`; or 20, and no byte changes.
+/// in `ids` and a header of 256 or 272 bytes; or 20, and no byte changes.
 pub fn new(
     image: &mut [u8],
     ids: &[u8; 64],
     data_cells: u64,
     field_cells: u64,
     keyed: bool,
+    header_size: u64,
 ) -> Result<(), Refusal> {
     let keyed = u64::from(keyed);
-    Refusal::check(raw::new(image, ids, data_cells, field_cells, keyed))
+    Refusal::check(raw::new(
+        image,
+        ids,
+        data_cells,
+        field_cells,
+        keyed,
+        header_size,
+    ))
 }
 
 /// Works out the stores of an append, to the front of the list, 16 bytes each. The image is not
@@ -53,13 +61,13 @@ pub fn plan(image: &[u8], request: &Request, stores: &mut [u8]) -> Planned {
 /// How many stores the list of `stores` has room for at first: more than most appends need.
 const ROOM: usize = 4_096;
 
-/// The list of an append's stores, as long as they are; or 1 to 18.
+/// The list of an append's stores, as long as they are; or 1 to 18 or 25.
 ///
 /// ```
 /// use wrapper::{carry_out, entries, new, stores, Fields, Request};
 ///
 /// let mut image = vec![0; 4_096];
-/// new(&mut image, &[7; 64], 1, 1, true)?;
+/// new(&mut image, &[7; 64], 1, 1, true, 256)?;
 /// let mut fields = Fields::new();
 /// fields.add("MESSAGE", "lot 12 due")?.add("PRIORITY", "2")?;
 /// let request = Request {

@@ -26,7 +26,7 @@ pub fn sync_points(list: &[u8]) -> Vec<usize> {
 /// use wrapper::{between_syncs, carry_out, new, stores, sync_points, Request};
 ///
 /// let mut image = vec![0; 4_096];
-/// new(&mut image, &[7; 64], 1, 1, true)?;
+/// new(&mut image, &[7; 64], 1, 1, true, 256)?;
 /// let request = Request {
 ///     machine: &[7; 16],
 ///     boot: &[7; 16],

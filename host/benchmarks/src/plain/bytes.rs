@@ -1,6 +1,6 @@
 //! Numbers and objects in an image.
 
-pub const HEADER_LENGTH: usize = 256;
+pub const LEAST_HEADER: usize = 256;
 pub const LONGEST_IMAGE: usize = 8_388_608;
 
 pub fn u32_at(bytes: &[u8], at: usize) -> u32 {
@@ -9,6 +9,12 @@ pub fn u32_at(bytes: &[u8], at: usize) -> u32 {
 
 pub fn u64_at(bytes: &[u8], at: usize) -> u64 {
     u64::from_le_bytes(bytes[at..at + 8].try_into().expect("eight bytes"))
+}
+
+/// Where the first object starts: at the header's end, which 5 has let pass.
+#[inline]
+pub fn first_object(image: &[u8]) -> usize {
+    u64_at(image, 88) as usize
 }
 
 /// Where the object after one starts.

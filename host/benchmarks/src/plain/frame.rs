@@ -1,5 +1,5 @@
 //! Refusals 1 to 7 and the object map.
-use super::bytes::{next, u32_at, u64_at, HEADER_LENGTH, LONGEST_IMAGE};
+use super::bytes::{first_object, next, u32_at, u64_at, LEAST_HEADER, LONGEST_IMAGE};
 
 /// Refusals 1 to 7: a pass over the objects for 6 and one for 7.
 pub fn refusal(image: &[u8]) -> u64 {
@@ -31,7 +31,7 @@ pub fn map(image: &[u8], at: u64) -> u64 {
     }
     let mut map = [0u8; LONGEST_IMAGE / 8];
     let (arena, tail) = arena(image);
-    let mut object = HEADER_LENGTH;
+    let mut object = first_object(arena);
     while object as u64 <= tail {
         map[object / 8] = arena[object].min(8);
         object = next(arena, object);
@@ -64,7 +64,7 @@ fn in_one_pass(image: &[u8], mut shown: impl FnMut(usize, u8)) -> u64 {
     }
     let (arena, tail) = arena(image);
     let mut tables = 0;
-    let mut at = HEADER_LENGTH;
+    let mut at = first_object(arena);
     while (at as u64) < tail {
         if object_fault(arena, at) {
             return 6;
@@ -78,18 +78,19 @@ fn in_one_pass(image: &[u8], mut shown: impl FnMut(usize, u8)) -> u64 {
     }
     shown(at, arena[at]);
     tables += usize::from(is_table(arena[at]));
-    if tables != 2 || tail == HEADER_LENGTH as u64 {
+    let first = first_object(arena);
+    if tables != 2 || tail == first as u64 {
         return 7;
     }
-    let second = next(arena, HEADER_LENGTH);
-    if !given(arena, HEADER_LENGTH, second) && !given(arena, second, HEADER_LENGTH) {
+    let second = next(arena, first);
+    if !given(arena, first, second) && !given(arena, second, first) {
         return 7;
     }
     0
 }
 
 fn header_refusal(image: &[u8]) -> u64 {
-    if image.len() < HEADER_LENGTH {
+    if image.len() < LEAST_HEADER {
         return 1;
     }
     if image.len() > LONGEST_IMAGE {
@@ -101,22 +102,23 @@ fn header_refusal(image: &[u8]) -> u64 {
     if u32_at(image, 12) & !4 != 0 {
         return 4;
     }
-    let arena_size = u64_at(image, 96);
-    let room = (image.len() - HEADER_LENGTH) as u64;
-    if u64_at(image, 88) != HEADER_LENGTH as u64 || arena_size % 8 != 0 || arena_size > room {
-        return 5;
+    let (header_size, arena_size) = (u64_at(image, 88), u64_at(image, 96));
+    let sum = header_size.checked_add(arena_size);
+    let fits = sum.is_some_and(|end| end <= image.len() as u64);
+    match matches!(header_size, 256 | 264 | 272) && arena_size % 8 == 0 && fits {
+        true => 0,
+        false => 5,
     }
-    0
 }
 
 /// The image up to the arena's end, and tail_object_offset.
 fn arena(image: &[u8]) -> (&[u8], u64) {
-    let end = HEADER_LENGTH + u64_at(image, 96) as usize;
+    let end = first_object(image) + u64_at(image, 96) as usize;
     (&image[..end], u64_at(image, 136))
 }
 
 fn walk_fault(arena: &[u8], tail: u64) -> bool {
-    let mut at = HEADER_LENGTH;
+    let mut at = first_object(arena);
     while (at as u64) < tail {
         if object_fault(arena, at) {
             return true;
@@ -146,11 +148,12 @@ fn object_fault(arena: &[u8], at: usize) -> bool {
 }
 
 fn tables_fault(arena: &[u8], tail: u64) -> bool {
-    if tail == HEADER_LENGTH as u64 {
+    let first = first_object(arena);
+    if tail == first as u64 {
         return true;
     }
-    let second = next(arena, HEADER_LENGTH);
-    if !given(arena, HEADER_LENGTH, second) && !given(arena, second, HEADER_LENGTH) {
+    let second = next(arena, first);
+    if !given(arena, first, second) && !given(arena, second, first) {
         return true;
     }
     let mut at = next(arena, second);

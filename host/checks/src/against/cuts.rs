@@ -3,11 +3,13 @@
 //! commit store the answers are those from before the append, then those from after it.
 use std::collections::BTreeSet;
 
+use super::boot;
 use super::foreign::{answer, places};
 use super::lookups::{archive, read, read_stamps, Words};
 use super::plan::{number, Append};
 use crate::generator::questions::Arguments;
 use reading::ask::Question;
+use reading::boot::{boot_meaning, BootMeaning};
 use reading::carry::{carry_out, stores};
 use reading::foreign::Foreign;
 use reading::image::le64;
@@ -24,11 +26,13 @@ pub struct Cut {
     pub answers: u64,
 }
 
-/// One thing to ask: a lookup, the stamps at an offset, or the foreign object at a place.
+/// One thing to ask: a lookup, the stamps at an offset, the foreign object at a place, or what the boot
+/// id means.
 pub(super) enum Asked {
     Lookup(Question),
     Stamps(u64),
     Foreign(u64),
+    BootMeaning,
 }
 
 /// An answer, and the bytes that it shows.
@@ -37,6 +41,7 @@ pub(super) enum Said<'a> {
     Lookup(Words, &'a [u8]),
     Stamps(Stamps),
     Foreign(Foreign),
+    BootMeaning(BootMeaning),
 }
 
 /// What the archive says; none where it shows a part outside the image.
@@ -55,6 +60,7 @@ pub(super) fn said<'a>(image: &'a [u8], asked: &Asked) -> Option<Said<'a>> {
         }
         Asked::Stamps(offset) => Some(Said::Stamps(raw::stamps(image, *offset))),
         Asked::Foreign(place) => Some(Said::Foreign(answer(image, *place))),
+        Asked::BootMeaning => Some(Said::BootMeaning(boot::answer(image))),
     }
 }
 
@@ -67,6 +73,7 @@ pub(super) fn all<'a>(journal: &Journal<'a>, asked: &[Asked]) -> Result<Vec<Said
             (Asked::Lookup(question), Said::Lookup(words, _)) => *words == read(journal, question),
             (Asked::Stamps(at), Said::Stamps(stamps)) => *stamps == read_stamps(journal, *at),
             (Asked::Foreign(place), Said::Foreign(it)) => *it == journal.foreign(*place),
+            (Asked::BootMeaning, Said::BootMeaning(it)) => *it == boot_meaning(journal.image.bytes),
             _ => false,
         };
         if !same {
@@ -92,6 +99,7 @@ pub(super) fn questions(before: &Journal, after: &Journal) -> Vec<Asked> {
         .map(Asked::Lookup)
         .chain(stamps)
         .chain(foreign)
+        .chain([Asked::BootMeaning])
         .collect()
 }
 

@@ -1,5 +1,6 @@
 //! The archive compared with the reading, for tests and long runs. What differs comes back as a
 //! text.
+pub mod boot;
 pub mod cuts;
 pub mod foreign;
 pub mod lent;

@@ -37,7 +37,7 @@ fn main() {
     let count = numbers.first().copied().unwrap_or(100_000);
     let first = numbers.get(1).copied().unwrap_or(0);
     let start = Instant::now();
-    let mut answers = [0u64; 20];
+    let mut answers = [0u64; 26];
     for n in 0..count {
         let seed = first.wrapping_add(n);
         let random = &mut Random::new(seed.wrapping_mul(0x9e37_79b9_7f4a_7c15));

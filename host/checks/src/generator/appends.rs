@@ -5,7 +5,7 @@ use super::grown::grown;
 use super::mutation::{self, untidy};
 use super::requests::{change, fitting, mutate, Asked};
 use crate::random::Random;
-use reading::image::Image;
+use reading::image::{first_object, Image};
 use reading::layout::header;
 use reading::plan::plan;
 use reading::refusal::clause::*;
@@ -53,18 +53,19 @@ fn end_of(image: &[u8], asked: &Asked) -> u64 {
 /// The image with its arena ending elsewhere, and 0 to 7 bytes after it.
 fn with_arena_to(image: &[u8], end: u64) -> Vec<u8> {
     let mut image = image.to_vec();
+    let arena_size = end - first_object(&image);
     image.resize((end + end / 8 % 8) as usize, 0);
-    image[header::ARENA_SIZE as usize..][..8].copy_from_slice(&(end - 256).to_le_bytes());
+    image[header::ARENA_SIZE as usize..][..8].copy_from_slice(&arena_size.to_le_bytes());
     image
 }
 
-/// An append meant for a clause of 12 to 19; it mostly reaches it.
+/// An append meant for a clause of 12 to 19 or 25; it mostly reaches it.
 pub fn targeted(clause: Clause, random: &mut Random) -> Case {
     loop {
         let mut made = tidy(random);
         let mut asked = fitting(random, &made.image);
         let possible = match clause.number {
-            12..=14 => untidy::mutate(clause, random, &mut made),
+            12..=14 | 25 => untidy::mutate(clause, random, &mut made),
             15..=17 => change(clause, random, &made.image, &mut asked),
             18 if once_in(random, 2) => {
                 let end = end_of(&made.image, &asked);
@@ -93,10 +94,10 @@ pub fn targeted(clause: Clause, random: &mut Random) -> Case {
     }
 }
 
-/// An append meant for a clause of 12 to 18 with at least one other of its number or a higher one:
-/// the lowest is the answer.
+/// An append meant for a clause of 12 to 18 or 25 with at least one other of its number or of one that
+/// is tested later: the first is the answer.
 pub fn combined(clause: Clause, random: &mut Random) -> Case {
-    assert!(clause.number < LIST_SHORT.number, "nothing is above it");
+    assert!(clause != LIST_SHORT, "nothing is tested after it");
     loop {
         let mut all = beside(clause, random);
         if all.is_empty() {
@@ -106,33 +107,34 @@ pub fn combined(clause: Clause, random: &mut Random) -> Case {
         // Mutations that draw the image anew come before those that set a word.
         all.sort_by_key(|&it| !untidy::redraws(it));
         let mut made = tidy(random);
-        let of = |low: u64, high: u64| {
+        let of = |numbers: &'static [u64]| {
             let all = all.iter().copied();
-            all.filter(move |it| (low..=high).contains(&it.number))
+            all.filter(move |it| numbers.contains(&it.number))
         };
-        if !of(12, 14).all(|it| untidy::mutate(it, random, &mut made)) {
+        if !of(&[12, 25, 13, 14]).all(|it| untidy::mutate(it, random, &mut made)) {
             continue;
         }
         let mut asked = fitting(random, &made.image);
-        if !of(15, 17).all(|it| change(it, random, &made.image, &mut asked)) {
+        if !of(&[15, 16, 17]).all(|it| change(it, random, &made.image, &mut asked)) {
             continue;
         }
         let mut image = made.image;
-        if of(18, 18).next().is_some() {
+        if of(&[18]).next().is_some() {
             let image_now = Image::walked(&image);
             let end = image_now.objects[image_now.objects.len() - 1].next() as u64;
             image = with_arena_to(&image, end);
         }
-        let short = of(19, 19).next().is_some();
+        let short = of(&[19]).next().is_some();
         let list = if short { random.below(32) } else { 16 * 3000 };
         return Case { image, asked, list };
     }
 }
 
-/// Clauses to stand beside one: at most one of each number from its own on.
+/// Clauses to stand beside one: at most one of each number from its own on, in the order of tests.
 fn beside(clause: Clause, random: &mut Random) -> Vec<Clause> {
     let mut others = Vec::new();
-    for number in clause.number..=19 {
+    let later = APPEND_ORDER.into_iter();
+    for number in later.skip_while(|&number| number != clause.number) {
         let mut choices = APPEND_CLAUSES.to_vec();
         choices.retain(|&it| it.number == number && it != clause);
         if number == clause.number {

@@ -8,6 +8,8 @@ pub struct Draft {
     pub boot_id: [u8; 16],
     pub seqnum_id: [u8; 16],
     pub compatible_flags: u32,
+    /// One of the three; the objects start there.
+    pub header_size: u64,
     pub keyed: bool,
     pub state: u8,
     pub data_table_first: bool,
@@ -95,6 +97,7 @@ impl Draft {
             boot_id: [3; 16],
             seqnum_id: [4; 16],
             compatible_flags: 0,
+            header_size: 256,
             keyed: false,
             state: 0,
             data_table_first: true,

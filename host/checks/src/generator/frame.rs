@@ -1,12 +1,17 @@
 //! Images that are a frame and no more: a header, two tables of one cell and other objects, all of
 //! whose bytes but the type and the size are 0. Refusals 1 to 7 do not apply; later ones may.
-use reading::layout::{header, kind, table, FIRST_OBJECT, SIGNATURE};
+use reading::layout::{header, kind, table, SIGNATURE};
 
 /// Objects of these types and sizes after the tables; sizes that their types can have.
 pub fn frame(objects: &[(u8, u64)]) -> Vec<u8> {
-    let mut image = vec![0; FIRST_OBJECT as usize];
+    frame_with(256, objects)
+}
+
+/// The same with a header of any of the three sizes.
+pub fn frame_with(header_size: u64, objects: &[(u8, u64)]) -> Vec<u8> {
+    let mut image = vec![0; header_size as usize];
     image[..8].copy_from_slice(&SIGNATURE);
-    set(&mut image, header::HEADER_SIZE, FIRST_OBJECT);
+    set(&mut image, header::HEADER_SIZE, header_size);
     let tables = [
         (
             kind::DATA_HASH_TABLE,
@@ -27,7 +32,7 @@ pub fn frame(objects: &[(u8, u64)]) -> Vec<u8> {
     for &(kind, size) in objects {
         object(&mut image, kind, size);
     }
-    let arena_size = image.len() as u64 - FIRST_OBJECT;
+    let arena_size = image.len() as u64 - header_size;
     set(&mut image, header::ARENA_SIZE, arena_size);
     image
 }

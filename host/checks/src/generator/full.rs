@@ -7,6 +7,11 @@ use crate::random::Random;
 /// chain has arrays of the same sizes, less the one item for the inline entry. `spare` bytes are
 /// left after the objects.
 pub fn full(arrays: &[usize], keyed: bool, spare: u64) -> Vec<u8> {
+    full_with(256, arrays, keyed, spare)
+}
+
+/// The same with a header of any of the three sizes.
+pub fn full_with(header_size: u64, arrays: &[usize], keyed: bool, spare: u64) -> Vec<u8> {
     let count: usize = arrays.iter().sum();
     let first = 2 + 2 * arrays.len();
     let entries = first..first + count;
@@ -49,6 +54,7 @@ pub fn full(arrays: &[usize], keyed: bool, spare: u64) -> Vec<u8> {
         }));
     }
     let draft = Draft {
+        header_size,
         keyed,
         data_cells: 3,
         committed: entries.collect(),

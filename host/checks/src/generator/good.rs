@@ -8,6 +8,7 @@ use super::rendered::Rendered;
 use super::strays::{share_arrays, stray_links};
 use super::wish::Wish;
 use crate::random::Random;
+use reading::layout::{HEADER_SIZES, TAIL_ENTRY_BOOT_ID};
 
 /// A good image.
 pub fn good(random: &mut Random) -> Rendered {
@@ -54,16 +55,24 @@ const NAMES: &[&[u8]] = &[
 
 fn empty(random: &mut Random, wish: Wish) -> Draft {
     let most_cells = if once_in(random, 3) { 1 } else { 9 };
+    // An append to 264 is 25, and to 272 it is taken with compatible bit 1 and without.
+    let (header_size, compatible_flags) = match wish.tidy {
+        true => pick(random, &[(256, 0), (272, 0), (272, TAIL_ENTRY_BOOT_ID)]),
+        false => {
+            let flags = random.word() as u32;
+            (
+                pick(random, &HEADER_SIZES),
+                pick(random, &[0, TAIL_ENTRY_BOOT_ID, flags]),
+            )
+        }
+    };
     Draft {
         file_id: random.array(),
         machine_id: random.array(),
         boot_id: random.array(),
         seqnum_id: random.array(),
-        compatible_flags: if wish.tidy || once_in(random, 2) {
-            0
-        } else {
-            random.word() as u32
-        },
+        compatible_flags,
+        header_size,
         keyed: once_in(random, 2),
         state: if wish.tidy {
             0

@@ -31,18 +31,24 @@ pub fn new(random: &mut Random) -> (u64, NewFile) {
         } else {
             between(random, 0, 1)
         },
+        header_size: if edges && once_in(random, 2) {
+            pick(random, &[0, 8, 255, 257, 264, 271, 273, 280, u64::MAX])
+        } else {
+            pick(random, &[256, 272])
+        },
         file_id: random.array(),
         machine_id: random.array(),
         boot_id: random.array(),
         seqnum_id: random.array(),
     };
-    let tables = 288 + 16 * (new.data_cells.min(70_000) + new.field_cells.min(70_000));
+    let cells = new.data_cells.min(70_000) + new.field_cells.min(70_000);
+    let tables = new.header_size.min(280) + 32 + 16 * cells;
     let near = pick(
         random,
         &[tables - 8, tables, tables + 8, tables + 1, tables - 1],
     );
     let length = if edges {
-        pick(random, &[near, 0, 255, 256])
+        pick(random, &[near, near, 0, 255, 256, 264, 271, 272])
     } else {
         tables + 8 * between(random, 0, 600)
     };

@@ -74,6 +74,7 @@ fn file(random: &mut Random, seqnum_id: [u8; 16], entries: &[Logged]) -> Vec<u8>
         data_cells: between(random, 1, 5),
         field_cells: between(random, 1, 5),
         keyed: between(random, 0, 1),
+        header_size: pick(random, &[256, 272]),
         file_id: random.array(),
         machine_id: [2; 16],
         boot_id: [3; 16],

@@ -20,6 +20,7 @@ pub mod questions;
 pub mod render;
 mod render_header;
 mod render_links;
+mod render_tail;
 pub mod rendered;
 pub mod requests;
 pub mod set_clock;

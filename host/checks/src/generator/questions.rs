@@ -112,6 +112,7 @@ pub fn one_of_each() -> Vec<Question> {
         Question::FirstRealtime(0),
         Question::Holding(b"MESSAGE=".to_vec(), 0),
         Question::Item(256, 0),
+        Question::Item(272, 0),
         Question::Payload(b"MESSAGE".to_vec(), 0),
     ]
 }

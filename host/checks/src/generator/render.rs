@@ -2,6 +2,7 @@
 use super::draft::{Draft, Item, Part};
 use super::render_header::{write_free_facts, write_header};
 use super::render_links::{write_chains, write_lists};
+use super::render_tail::{write_free_tail, write_tail};
 use super::rendered::{hash, kind_of, size, Rendered};
 use crate::random::Random;
 use reading::layout::{array, data, entry, field, kind};
@@ -14,13 +15,14 @@ fn eights(size: u64) -> u64 {
 pub fn render(draft: &Draft, random: &mut Random) -> Rendered {
     let data_size = 16 + 16 * draft.data_cells;
     let field_size = 16 + 16 * draft.field_cells;
+    let first = draft.header_size;
     let (data_table, field_table) = if draft.data_table_first {
-        (256, 256 + data_size)
+        (first, first + data_size)
     } else {
-        (256 + field_size, 256)
+        (first + field_size, first)
     };
     let mut offsets = vec![0; draft.parts.len()];
-    let mut end = 256 + data_size + field_size;
+    let mut end = first + data_size + field_size;
     let mut tail = data_table.max(field_table);
     for &part in &draft.order {
         tail = end;
@@ -59,8 +61,10 @@ pub fn render(draft: &Draft, random: &mut Random) -> Rendered {
     write_chains(&mut out);
     write_lists(&mut out);
     write_header(&mut out, random, data_size, field_size);
+    write_tail(&mut out);
     if draft.free_facts {
         write_free_facts(&mut out, random);
+        write_free_tail(&mut out, random);
     }
     out
 }

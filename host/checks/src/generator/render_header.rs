@@ -32,8 +32,8 @@ pub fn write_header(out: &mut Rendered, random: &mut Random, data_size: u64, fie
         .collect();
     let (head, tail) = (entries.first(), entries.last());
     for (at, value) in [
-        (header::HEADER_SIZE, 256),
-        (header::ARENA_SIZE, out.arena_end - 256),
+        (header::HEADER_SIZE, draft.header_size),
+        (header::ARENA_SIZE, out.arena_end - draft.header_size),
         (header::DATA_HASH_TABLE_OFFSET, out.data_table + 16),
         (header::DATA_HASH_TABLE_SIZE, data_size - 16),
         (header::FIELD_HASH_TABLE_OFFSET, out.field_table + 16),

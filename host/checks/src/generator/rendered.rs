@@ -26,6 +26,11 @@ impl Rendered {
         self.image[at as usize..at as usize + 8].copy_from_slice(&value.to_le_bytes());
     }
 
+    /// A number of 32 bits.
+    pub fn set_half(&mut self, at: u64, value: u32) {
+        self.image[at as usize..at as usize + 4].copy_from_slice(&value.to_le_bytes());
+    }
+
     pub fn set_byte(&mut self, at: u64, value: u8) {
         self.image[at as usize] = value;
     }

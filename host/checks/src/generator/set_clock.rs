@@ -1,5 +1,5 @@
 //! Files whose clock was set: wall times that fall and rise again in the order of the entries.
-use super::worked::{appended, made, request};
+use super::worked::{appended, made_with, request};
 use reading::layout::header;
 use reading::request::{packed, Request};
 use std::collections::BTreeSet;
@@ -58,6 +58,7 @@ pub fn first_from(times: &[u64], t: u64) -> Option<usize> {
 #[derive(Clone, Copy)]
 pub struct Kind {
     pub keyed: u64,
+    pub header_size: u64,
     pub seqnum_id: u8,
     pub boot: u8,
     /// The first sequence number; the next one is two above, and monotonic times are the same.
@@ -67,6 +68,7 @@ pub struct Kind {
 /// One of one boot.
 pub const PLAIN: Kind = Kind {
     keyed: 0,
+    header_size: 256,
     seqnum_id: 4,
     boot: 5,
     first: 1,
@@ -80,7 +82,7 @@ pub fn fields(n: u64) -> Vec<u8> {
 impl Kind {
     /// A file without entries.
     pub fn empty(&self) -> Vec<u8> {
-        let mut image = made(16_384, self.keyed);
+        let mut image = made_with(self.header_size, 16_384, self.keyed);
         image[header::SEQNUM_ID as usize..][..16].fill(self.seqnum_id);
         image
     }

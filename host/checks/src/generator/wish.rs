@@ -3,7 +3,7 @@
 /// What a good image is to be.
 #[derive(Clone, Copy)]
 pub struct Wish {
-    /// Fit for an append: refusals 12 to 14 do not apply.
+    /// Fit for an append: refusals 12 to 14 and 25 do not apply.
     pub tidy: bool,
     /// At most so many entries and DATA.
     pub entries: u64,

@@ -12,6 +12,7 @@ pub fn one_cell_each(keyed: u64) -> NewFile {
         data_cells: 1,
         field_cells: 1,
         keyed,
+        header_size: 256,
         file_id: [1; 16],
         machine_id: [2; 16],
         boot_id: [3; 16],
@@ -21,8 +22,17 @@ pub fn one_cell_each(keyed: u64) -> NewFile {
 
 /// "New file of 4,096 bytes, one cell each", and of other lengths.
 pub fn made(length: usize, keyed: u64) -> Vec<u8> {
+    made_with(256, length, keyed)
+}
+
+/// The same with a header of 256 or 272 bytes.
+pub fn made_with(header_size: u64, length: usize, keyed: u64) -> Vec<u8> {
     let mut image = vec![0xff; length];
-    assert_eq!(new_file(&mut image, &one_cell_each(keyed)), 0);
+    let new = NewFile {
+        header_size,
+        ..one_cell_each(keyed)
+    };
+    assert_eq!(new_file(&mut image, &new), 0);
     image
 }
 
@@ -61,7 +71,12 @@ pub fn second() -> Vec<u8> {
 
 /// A new file of 4,096 bytes with both appends.
 pub fn two_appends(keyed: u64) -> Vec<u8> {
-    let mut image = made(4096, keyed);
+    two_appends_with(256, keyed)
+}
+
+/// The same with a header of 256 or 272 bytes.
+pub fn two_appends_with(header_size: u64, keyed: u64) -> Vec<u8> {
+    let mut image = made_with(header_size, 4096, keyed);
     appended(&mut image, &request(&first(), LAST, 1700000000000000, 50));
     let next = LAST + 1;
     appended(&mut image, &request(&second(), next, 1700000000000001, 60));

@@ -9,9 +9,14 @@ type Redraw = fn(&mut Draft);
 #[test]
 fn drafts_one_by_one() {
     let mut tried = tried();
-    let cases: [(&str, u64, Redraw); 17] = [
+    let cases: [(&str, u64, Redraw); 20] = [
         ("as it is", 0, |_| ()),
         ("field table first", 0, |it| it.data_table_first = false),
+        ("a header of 264", 0, |it| it.header_size = 264),
+        ("a header of 272", 0, |it| it.header_size = 272),
+        ("a header of 272 and all compatible bits", 0, |it| {
+            (it.header_size, it.compatible_flags) = (272, u32::MAX)
+        }),
         ("one cell each", 0, |it| {
             (it.data_cells, it.field_cells) = (1, 1)
         }),

@@ -7,11 +7,12 @@ use checks::corpus::{self, FILES};
 use checks::generator::any::{any, cut, larger};
 use checks::generator::dice::{between, once_in};
 use checks::generator::draft::Part;
-use checks::generator::frame::{frame, set};
+use checks::generator::frame::{frame_with, set};
 use checks::generator::render::render;
 use checks::generator::{foreign, good, grown};
 use checks::random::Random;
-use reading::layout::{header, kind, FIRST_OBJECT, MOST_BYTES};
+use reading::image::first_object;
+use reading::layout::{header, kind, HEADER_SIZES, MOST_BYTES};
 use wrapper::raw;
 
 /// Each type right after the tables, between other objects, and as the tail object.
@@ -35,16 +36,18 @@ fn every_type() {
 #[test]
 fn every_size() {
     let mut tried = Tried::default();
-    // Behind the header and two tables of one cell.
-    let first = FIRST_OBJECT + 64;
-    for size in (16..=130).chain([4_095, 65_535, 65_536, 65_537, 1 << 20, (1 << 20) + 1]) {
-        let image = frame(&[(9, size), (10, 16)]);
-        let second = first + size.next_multiple_of(8);
-        tried.names(&image, &[(first, 9), (second, 10)]);
+    for header_size in HEADER_SIZES {
+        // Behind the header and two tables of one cell.
+        let first = header_size + 64;
+        for size in (16..=130).chain([4_095, 65_535, 65_536, 65_537, 1 << 20, (1 << 20) + 1]) {
+            let image = frame_with(header_size, &[(9, size), (10, 16)]);
+            let second = first + size.next_multiple_of(8);
+            tried.names(&image, &[(first, 9), (second, 10)]);
+        }
+        let longest = frame_with(header_size, &[(255, MOST_BYTES - first)]);
+        assert_eq!(longest.len() as u64, MOST_BYTES);
+        tried.names(&longest, &[(first, 255)]);
     }
-    let longest = frame(&[(255, MOST_BYTES - first)]);
-    assert_eq!(longest.len() as u64, MOST_BYTES);
-    tried.names(&longest, &[(first, 255)]);
     tried.print("every size");
 }
 
@@ -79,32 +82,38 @@ fn anywhere() {
 fn up_to_the_tail() {
     let mut tried = Tried::default();
     let objects = [(8, 16), (kind::TAG, 64), (200, 17), (200, 24), (8, 33)];
-    let image = frame(&objects);
-    let mut put = Vec::new();
-    let mut at = FIRST_OBJECT + 64;
-    tried.names(&with(&image, header::TAIL_OBJECT_OFFSET, at - 32), &put);
-    for (kind, size) in objects {
-        if kind != kind::TAG {
-            put.push((at, kind));
+    for header_size in HEADER_SIZES {
+        let image = frame_with(header_size, &objects);
+        let mut put = Vec::new();
+        let mut at = header_size + 64;
+        tried.names(&with(&image, header::TAIL_OBJECT_OFFSET, at - 32), &put);
+        for (kind, size) in objects {
+            if kind != kind::TAG {
+                put.push((at, kind));
+            }
+            let image = with(&image, header::TAIL_OBJECT_OFFSET, at);
+            for n_objects in [0, 1, 3, 7, u64::MAX] {
+                tried.names(&with(&image, header::N_OBJECTS, n_objects), &put);
+            }
+            at += size.next_multiple_of(8);
         }
-        let image = with(&image, header::TAIL_OBJECT_OFFSET, at);
-        for n_objects in [0, 1, 3, 7, u64::MAX] {
-            tried.names(&with(&image, header::N_OBJECTS, n_objects), &put);
-        }
-        at += size.next_multiple_of(8);
+        assert_eq!(put.len(), 4);
     }
-    assert_eq!(put.len(), 4);
 }
 
 /// The longest image, full of the smallest.
 #[test]
 fn as_many_as_there_may_be() {
-    let objects = vec![(77, 16); (MOST_BYTES - FIRST_OBJECT - 64) as usize / 16];
-    let image = frame(&objects);
-    let count = objects.len() as u64;
-    assert_eq!((image.len() as u64, count), (MOST_BYTES, 524_268));
+    as_many(256, 524_268);
+    as_many(272, 524_267);
+}
+
+fn as_many(header_size: u64, count: u64) {
+    let objects = vec![(77, 16); count as usize];
+    let image = frame_with(header_size, &objects);
+    assert_eq!(image.len() as u64, MOST_BYTES);
     for place in [0, 1, 255, 256, 65_535, 65_536, count - 1] {
-        let offset = FIRST_OBJECT + 64 + 16 * place;
+        let offset = header_size + 64 + 16 * place;
         let right = raw::Foreign {
             refusal: 0,
             offset,
@@ -150,7 +159,8 @@ fn real_files() {
         if number == 0 {
             let end = image.len() as u64;
             image.resize(image.len() + 128, 0);
-            set(&mut image, header::ARENA_SIZE, end + 128 - FIRST_OBJECT);
+            let arena_size = end + 128 - first_object(&image);
+            set(&mut image, header::ARENA_SIZE, arena_size);
             let kinds = [(8, 16), (255, 41), (9, 17)];
             let mut put = |(kind, size)| (foreign::put(&mut image, kind, size), kind);
             let put = kinds

@@ -1,20 +1,21 @@
 //! The archive's `benchmark_framed` against the independent reading: the lowest of refusals 1 to 7
 //! that applies, or 0.
 use checks::against::trial::{with, Tried};
-use checks::generator::frame::{frame, set};
-use checks::generator::worked::made;
+use checks::generator::frame::{frame_with, set};
+use checks::generator::worked::{made, made_with};
 use checks::generator::{good, grown, mutation};
 use checks::random::Random;
 use measured::framed;
-use reading::layout::{header, kind, MOST_BYTES};
+use reading::image::first_object;
+use reading::layout::{header, kind, HEADER_SIZES, MOST_BYTES};
 
 pub fn tried() -> Tried {
     Tried::new(framed, 7)
 }
 
 /// Every type, the smallest of each and one that is not the smallest.
-pub fn every_type() -> Vec<u8> {
-    frame(&[
+pub fn every_type(header_size: u64) -> Vec<u8> {
+    let objects = [
         (kind::DATA, 65),
         (kind::FIELD, 41),
         (kind::ENTRY, 80),
@@ -24,7 +25,8 @@ pub fn every_type() -> Vec<u8> {
         (kind::DATA, 73),
         (kind::ENTRY, 96),
         (255, 23),
-    ])
+    ];
+    frame_with(header_size, &objects)
 }
 
 #[test]
@@ -46,7 +48,82 @@ fn worked_examples() {
         number(&with(&image, header::FIELD_HASH_TABLE_OFFSET, 288)),
         7
     );
-    assert_eq!(number(&every_type()), 0);
+    // With a header of 272 all stands 16 bytes later.
+    let image = made_with(272, 336, 0);
+    assert_eq!(number(&image), 0);
+    assert_eq!(number(&with(&image, header::ARENA_SIZE, 72)), 5);
+    assert_eq!(number(&with(&image, header::TAIL_OBJECT_OFFSET, 288)), 6);
+    for wrong in [256, 272, 304] {
+        let image = with(&image, header::DATA_HASH_TABLE_OFFSET, wrong);
+        assert_eq!(number(&image), 7);
+    }
+    for header_size in HEADER_SIZES {
+        assert_eq!(number(&every_type(header_size)), 0);
+        // Walked from another place there is no object, or there are no tables.
+        for other in HEADER_SIZES.into_iter().filter(|&it| it != header_size) {
+            let image = every_type(header_size);
+            let arena_size = image.len() as u64 - other;
+            let image = with(&image, header::HEADER_SIZE, other);
+            assert!(matches!(
+                number(&with(&image, header::ARENA_SIZE, arena_size)),
+                6 | 7
+            ));
+        }
+    }
+}
+
+/// 5 names three sizes; no other is taken for one of them.
+#[test]
+fn header_sizes() {
+    let mut tried = tried();
+    let mut sizes: Vec<u64> = (0..700).collect();
+    for size in HEADER_SIZES {
+        sizes.extend([8, 16, 31, 32, 48, 63].map(|bit| (1 << bit) + size));
+        sizes.extend([0u64.wrapping_sub(size), !size, size << 32, size << 56]);
+    }
+    sizes.extend([1 << 31, 1 << 32, 1 << 63, u64::MAX - 7, u64::MAX]);
+    for header_size in HEADER_SIZES {
+        let image = every_type(header_size);
+        let end = image.len() as u64;
+        for &size in &sizes {
+            let image = with(&image, header::HEADER_SIZE, size);
+            let number = tried.number(&image);
+            assert_eq!(number == 0, size == header_size, "{size}");
+            assert!(number == 5 || HEADER_SIZES.contains(&size), "{size}");
+            // The same with an arena that ends where it did, and with none.
+            let arena_size = end.wrapping_sub(size);
+            tried.image(&with(&image, header::ARENA_SIZE, arena_size));
+            tried.image(&with(&image, header::ARENA_SIZE, 0));
+        }
+    }
+    tried.print("header sizes");
+}
+
+/// Images of 256 to 280 bytes that call for a header of each size: one that ends before it is 5, and no
+/// longer 1.
+#[test]
+fn shorter_than_the_header() {
+    let mut tried = tried();
+    for header_size in HEADER_SIZES {
+        let whole = every_type(header_size);
+        for length in 250..=280 {
+            for arena_size in [0, 8, 16, 24, 64, u64::MAX - 271, u64::MAX - 7] {
+                for tail in [0, 256, 264, 272, 304] {
+                    let mut image = with(&whole, header::ARENA_SIZE, arena_size);
+                    set(&mut image, header::TAIL_OBJECT_OFFSET, tail);
+                    image.truncate(length);
+                    let sum = header_size as u128 + arena_size as u128;
+                    let number = match length {
+                        0..256 => 1,
+                        _ if sum > length as u128 => 5,
+                        _ => 6,
+                    };
+                    assert_eq!(tried.number(&image), number, "{header_size}, {length}");
+                }
+            }
+        }
+    }
+    tried.print("shorter than the header");
 }
 
 /// 8,388,608 bytes are taken, one more is not, whatever else is wrong.
@@ -65,6 +142,7 @@ fn the_longest_image() {
     assert_eq!(tried.image(&image)[0].number, 6);
     image.push(0);
     assert_eq!(tried.image(&image)[0].number, 2);
+    assert!(tried.image(&made_with(272, most, 0)).is_empty());
     assert_eq!(tried.image(&vec![0; most])[0].number, 3);
     assert_eq!(tried.image(&vec![0; most + 1])[0].number, 2);
 }
@@ -104,8 +182,9 @@ fn real_files() {
     tried().real_files(|tried, image| {
         for at in (0..=image.len() as u64 + 16).step_by(40) {
             tried.image(&with(image, header::TAIL_OBJECT_OFFSET, at));
-            if 256 <= at {
-                tried.image(&with(image, header::ARENA_SIZE, at - 256));
+            let first = first_object(image);
+            if first <= at {
+                tried.image(&with(image, header::ARENA_SIZE, at - first));
             }
         }
     });

@@ -2,18 +2,18 @@
 //! compare.
 use super::frames::{every_type, tried};
 use checks::against::trial::with;
-use checks::generator::frame::{frame, set};
-use checks::generator::worked::made;
+use checks::generator::frame::{frame_with, set};
+use checks::generator::worked::{made, made_with};
 use checks::random::Random;
 use reading::image::{le64, Image};
-use reading::layout::{header, kind};
+use reading::layout::{header, kind, HEADER_SIZES};
 
 /// Each byte of the header and of the objects' heads at each of its 256 values.
 #[test]
 fn every_value_of_every_byte() {
     let mut tried = tried();
-    for image in [made(320, 0), every_type()] {
-        let mut places: Vec<u64> = (0..256).collect();
+    for image in [made(320, 0), every_type(264), made_with(272, 336, 0)] {
+        let mut places: Vec<u64> = (0..272).collect();
         for object in Image::walked(&image).objects {
             places.extend(object.offset..object.offset + 16);
         }
@@ -31,9 +31,9 @@ fn every_value_of_every_byte() {
 /// Values at the edges of what the rules compare, around what stands there, and near 2^64.
 fn edges(is: u64) -> Vec<u64> {
     let mut values = vec![
-        0, 1, 7, 8, 15, 16, 24, 31, 32, 40, 41, 64, 65, 72, 80, 255, 256, 257, 272,
+        0, 1, 7, 8, 15, 16, 24, 31, 32, 40, 41, 64, 65, 72, 80, 255, 256, 257, 264, 272,
     ];
-    values.extend([288, 304, 312, 320, 328, 336]);
+    values.extend([280, 288, 304, 312, 320, 328, 336]);
     values.extend([1, 7, 8, 16].map(|far| is.wrapping_add(far)));
     values.extend([1, 7, 8, 16].map(|far| is.wrapping_sub(far)));
     values.extend([0, 6, 7, 15, 255, 263, 287, 319].map(|far| u64::MAX - far));
@@ -45,7 +45,7 @@ fn edges(is: u64) -> Vec<u64> {
 #[test]
 fn every_two_words() {
     let mut tried = tried();
-    let image = frame(&[(kind::DATA, 70)]);
+    let image = frame_with(272, &[(kind::DATA, 70)]);
     let mut places = vec![8];
     places.extend((header::HEADER_SIZE..=header::TAIL_OBJECT_OFFSET).step_by(8));
     for object in Image::walked(&image).objects {
@@ -66,15 +66,21 @@ fn every_two_words() {
 
 /// The arena that the image's length leaves.
 fn arena_to_the_end(image: &mut [u8]) {
-    let arena = (image.len() as u64 - 256) / 8 * 8;
-    set(image, header::ARENA_SIZE, arena);
+    let header_size = le64(image, header::HEADER_SIZE);
+    let arena_size = (image.len() as u64).saturating_sub(header_size) / 8 * 8;
+    set(image, header::ARENA_SIZE, arena_size);
 }
 
 /// Inputs of every length up to 600: zeros or anything, with some or all of a header that fits.
 #[test]
 fn short_and_random_inputs() {
     let mut tried = tried();
-    let heads = [vec![0; 256], made(320, 0), every_type()];
+    let heads = [
+        vec![0; 256],
+        made(320, 0),
+        every_type(264),
+        made_with(272, 336, 0),
+    ];
     for length in 0..=600 {
         let random = &mut Random::new(length as u64);
         for round in 0..20 {
@@ -84,7 +90,7 @@ fn short_and_random_inputs() {
             }
             for part in [0..8, 8..16, 88..96, 96..104, 104..136, 136..144] {
                 if part.end <= length && random.below(8) != 0 {
-                    image[part.clone()].copy_from_slice(&heads[round % 3][part]);
+                    image[part.clone()].copy_from_slice(&heads[round % 4][part]);
                 }
             }
             tried.image(&image);
@@ -102,21 +108,20 @@ fn short_and_random_inputs() {
 #[test]
 fn every_cut() {
     let mut tried = tried();
-    let whole = every_type();
-    let objects = Image::walked(&whole).objects;
-    for length in 0..=whole.len() {
-        let mut image = whole[..length].to_vec();
-        tried.image(&image);
-        if 256 <= length {
-            arena_to_the_end(&mut image);
+    for header_size in HEADER_SIZES {
+        let whole = every_type(header_size);
+        let objects = Image::walked(&whole).objects;
+        for length in 0..=whole.len() {
+            let mut image = whole[..length].to_vec();
             tried.image(&image);
-            let tail = objects.iter().rev().find(|it| it.offset < length as u64);
-            set(
-                &mut image,
-                header::TAIL_OBJECT_OFFSET,
-                tail.map_or(256, |it| it.offset),
-            );
-            tried.image(&image);
+            if 256 <= length {
+                arena_to_the_end(&mut image);
+                tried.image(&image);
+                let tail = objects.iter().rev().find(|it| it.offset < length as u64);
+                let tail = tail.map_or(header_size, |it| it.offset);
+                set(&mut image, header::TAIL_OBJECT_OFFSET, tail);
+                tried.image(&image);
+            }
         }
     }
     tried.print("every cut");

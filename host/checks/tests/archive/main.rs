@@ -1,6 +1,7 @@
 //! The archives' calls compared with the independent reading.
 mod adding;
 mod asking;
+mod boot;
 mod drafts;
 mod example;
 mod foreign;

@@ -8,7 +8,7 @@ use checks::generator::worked::one_cell_each;
 use checks::generator::{good, grown, mutation};
 use checks::random::Random;
 use measured::framed;
-use reading::layout::{header, kind, MOST_BYTES};
+use reading::layout::{header, kind, HEADER_SIZES, MOST_BYTES};
 use reading::new_file::{new_file, NewFile};
 use wrapper::raw;
 
@@ -75,11 +75,17 @@ fn untargeted_mutations() {
 #[test]
 fn short_inputs() {
     let mut tried = tried();
-    let image = drawn(&example()).image;
+    let images = HEADER_SIZES.map(|header_size| {
+        let mut draft = example();
+        draft.header_size = header_size;
+        drawn(&draft).image
+    });
     for length in 0..=400 {
         tried.image(&vec![0; length]);
         tried.image(&Random::new(length as u64).bytes(length));
-        tried.image(&image[..length]);
+        for image in &images {
+            tried.image(&image[..length]);
+        }
     }
     for kind in 1..=9 {
         for size in [16, 32, 64, 65, 80, 96] {
@@ -97,15 +103,17 @@ fn short_inputs() {
 fn the_longest_image() {
     let mut tried = tried();
     let mut image = vec![0; MOST_BYTES as usize];
+    let header_size = 272;
     for (data_cells, keyed) in [(1, 0), (65_536, 1)] {
         let new = NewFile {
             data_cells,
+            header_size,
             ..one_cell_each(keyed)
         };
         assert_eq!(new_file(&mut image, &new), 0);
         assert_eq!(tried.number(&image), 0);
     }
-    let end = 256 + 16 + 16 * 65_536 + 32;
+    let end = header_size + 16 + 16 * 65_536 + 32;
     let last = MOST_BYTES - 32;
     image[end as usize] = 9;
     set(&mut image, end + 8, last - end);

@@ -80,7 +80,13 @@ fn searched_around_each_jump() {
     for (what, times) in series() {
         assert!(times.windows(2).any(|pair| pair[1] < pair[0]), "{what}");
         for keyed in [0, 1] {
-            let image = Kind { keyed, ..PLAIN }.file(&times);
+            let header_size = [256, 272][keyed as usize];
+            let kind = Kind {
+                keyed,
+                header_size,
+                ..PLAIN
+            };
+            let image = kind.file(&times);
             assert_eq!(raw::open(&image), 0, "{what}");
             let entries = wrapper::all_entries(&image).expect("it opens");
             assert!(entries.iter().map(|it| it.realtime).eq(times.clone()));

@@ -55,7 +55,7 @@ fn asked<T>(fields: &[&str], stamp: (u64, u64, u64, [u8; 16]), with: impl Fn(&Re
 /// A file with two entries of one field, the last with number 5.
 fn made() -> Vec<u8> {
     let mut image = vec![0; 16_384];
-    wrapper::new(&mut image, &[7; 64], 3, 2, true).expect("it is made");
+    wrapper::new(&mut image, &[7; 64], 3, 2, true, 256).expect("it is made");
     for seqnum in [4, 5] {
         let stamp = (seqnum, 1_700_000_000_000_000, 1, [8; 16]);
         let list = asked(&["LOT=12"], stamp, |it| stores(&image, it)).expect("it is taken");
@@ -136,7 +136,8 @@ fn what_it_refuses() {
     for (name, number) in [
         ("sealed-bullseye-c0-system", 12),
         ("bullseye-k1-c0-online", 13),
-        ("trixie-k1-c0-system", 5),
+        ("bookworm-k1-c0-system", 25),
+        ("trixie-k1-c1-system", 4),
     ] {
         let before = corpus::image(name);
         std::fs::write(&path, &before).expect("a file");

@@ -97,6 +97,6 @@ fn declared() -> BTreeSet<String> {
 #[test]
 fn every_export() {
     let expected = expected();
-    assert_eq!(expected.len(), 21 + 7);
+    assert_eq!(expected.len(), 22 + 8);
     assert_eq!(declared(), expected);
 }

@@ -16,8 +16,9 @@ fn rows(heading: &str) -> Vec<Vec<&'static str>> {
 #[test]
 fn refusals() {
     let rows = rows("\n## Refusals\n");
-    assert_eq!(rows.len(), 21);
-    for (row, number) in rows.iter().zip(1..) {
+    let numbers = Vec::from_iter((1..=21).chain([25]));
+    assert_eq!(rows.len(), numbers.len());
+    for (row, number) in rows.iter().zip(numbers) {
         let refusal = Refusal::new(number).expect("not 0");
         let [first, short, condition] = row[..] else {
             panic!("{row:?} has three cells");

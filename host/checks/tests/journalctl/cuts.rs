@@ -6,7 +6,7 @@ use wrapper::sync_points;
 use crate::check::{exported, shown};
 use crate::entries::{grown, logged};
 use crate::export::Entry;
-use crate::file::File;
+use crate::file::{can_be_asked, File};
 use crate::written::{carry_out, nth, planned};
 
 fn entries(image: &[u8]) -> Vec<Entry> {
@@ -15,9 +15,16 @@ fn entries(image: &[u8]) -> Vec<Entry> {
 
 #[test]
 fn every_cut() {
-    for (before, keyed) in [(0, 0), (0, 1), (12, 0), (12, 1)] {
+    for (header_size, before, keyed) in [
+        (256, 0, 0),
+        (256, 0, 1),
+        (256, 12, 0),
+        (256, 12, 1),
+        (272, 0, 1),
+        (272, 12, 0),
+    ] {
         let random = &mut Random::new(300 + keyed);
-        let image = grown(random, (3, 2), keyed, before);
+        let image = grown(header_size, random, (3, 2), keyed, before);
         let mut payloads = logged(random, before + 1);
         payloads.push(b"NEW=1".to_vec());
         let list = planned(&image, nth(before + 1), &payloads);
@@ -32,6 +39,9 @@ fn every_cut() {
         for k in 0..=count {
             let mut cut = image.clone();
             assert_eq!(wrapper::carry_out(&mut cut, &list, k as u64), Ok(()));
+            if !can_be_asked(&cut) {
+                continue;
+            }
             let file = File::new(&cut);
             let expected = if k < commit { &old } else { &new };
             assert!(exported(&file, &[]) == *expected, "{k} of {count} stores");

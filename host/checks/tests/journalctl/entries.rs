@@ -2,7 +2,7 @@
 use checks::random::Random;
 
 use crate::check::check;
-use crate::written::{append, new, nth};
+use crate::written::{append, new_with, nth};
 
 /// Numbers of data and field cells.
 pub const CELLS: [(u64, u64); 4] = [(1, 1), (3, 2), (233, 33), (65_536, 1_024)];
@@ -25,11 +25,18 @@ pub fn logged(random: &mut Random, n: u64) -> Vec<Vec<u8>> {
     payloads.into_iter().map(String::into_bytes).collect()
 }
 
-/// A file with so many such entries, and room for some 30 others.
-pub fn grown(random: &mut Random, cells: (u64, u64), keyed: u64, entries: u64) -> Vec<u8> {
-    let tables = 16 * (cells.0 + cells.1) as usize;
+/// A file with so many such entries, and room for some 30 others, with a header of 256 or 272 bytes.
+pub fn grown(
+    header_size: u64,
+    random: &mut Random,
+    cells: (u64, u64),
+    keyed: u64,
+    entries: u64,
+) -> Vec<u8> {
+    let tables = 32 + 16 * (cells.0 + cells.1) as usize;
     let room = 504 * (entries as usize + 30);
-    let mut image = new(288 + tables + room, cells, keyed);
+    let length = header_size as usize + tables + room;
+    let mut image = new_with(header_size, length, cells, keyed);
     for n in 1..=entries {
         append(&mut image, nth(n), &logged(random, n));
     }
@@ -40,10 +47,11 @@ pub fn grown(random: &mut Random, cells: (u64, u64), keyed: u64, entries: u64) -
 /// that fill an array.
 #[test]
 fn one_by_one() {
-    for cells in CELLS {
+    let every = |header_size| CELLS.map(|cells| (header_size, cells));
+    for (header_size, cells) in every(256).into_iter().chain(every(272)) {
         for keyed in [0, 1] {
             let random = &mut Random::new(cells.0 + keyed);
-            let mut image = grown(random, cells, keyed, 0);
+            let mut image = grown(header_size, random, cells, keyed, 0);
             check(&image, 0);
             for n in 1..=30 {
                 append(&mut image, nth(n), &logged(random, n));
@@ -56,9 +64,9 @@ fn one_by_one() {
 #[test]
 fn hundreds() {
     for cells in CELLS {
-        for keyed in [0, 1] {
+        for (header_size, keyed) in [(256, 0), (256, 1), (272, 0), (272, 1)] {
             let random = &mut Random::new(100 + cells.0 + keyed);
-            check(&grown(random, cells, keyed, 300), 300);
+            check(&grown(header_size, random, cells, keyed, 300), 300);
         }
     }
 }

@@ -67,11 +67,16 @@ fn line(text: &[u8]) -> (&[u8], &[u8]) {
 pub fn parsed(mut text: &[u8]) -> Vec<Entry> {
     let mut entries = Vec::new();
     while !text.is_empty() {
-        let head = std::array::from_fn(|_| {
+        let mut head = || loop {
             let (start, rest) = line(text);
             text = rest;
-            String::from_utf8(start.to_vec()).expect("the head is text")
-        });
+            // From systemd 254 on the sequence number and its id have lines of their own; the cursor has
+            // them in any version.
+            if !start.starts_with(b"__SEQNUM") {
+                return String::from_utf8(start.to_vec()).expect("the head is text");
+            }
+        };
+        let head = std::array::from_fn(|_| head());
         let mut payloads = Vec::new();
         loop {
             let (start, rest) = line(text);

@@ -2,9 +2,44 @@
 use std::path::{Path, PathBuf};
 use std::process::{Command, Output, Stdio};
 use std::sync::atomic::{AtomicU64, Ordering};
+use std::sync::OnceLock;
+
+use reading::image::{le32, le64};
+use reading::layout::{header, TAIL_ENTRY_BOOT_ID};
 
 /// An image in a file of its own, which goes when this does.
 pub struct File(PathBuf);
+
+/// The version of systemd that journalctl is of: `systemd 252 (252.38-1)`.
+fn version() -> u64 {
+    static VERSION: OnceLock<u64> = OnceLock::new();
+    *VERSION.get_or_init(|| {
+        let output = Command::new("journalctl").arg("--version").output();
+        let output = output.expect("journalctl runs").stdout;
+        let text = String::from_utf8(output).expect("it is text");
+        let number = text.split_whitespace().nth(1).expect("a version");
+        let digits = number.split(|it: char| !it.is_ascii_digit()).next();
+        digits.and_then(|it| it.parse().ok()).expect("a number")
+    })
+}
+
+/// Compatible bit 1 came with systemd 254. Before that `--verify` takes no file that has it, though
+/// the rest of journalctl reads it.
+pub fn knows_the_boot_bit() -> bool {
+    version() >= 254
+}
+
+/// Whether journalctl can be asked of an image: systemd 254 answers `No data available` to a header of
+/// 272 whose tail_entry_offset is 0, as in a file without entries, or whose
+/// tail_entry_array_n_entries is above n_entries, as before the commit store of a first entry.
+pub fn can_be_asked(image: &[u8]) -> bool {
+    if !knows_the_boot_bit() || le64(image, header::HEADER_SIZE) < 272 {
+        return true;
+    }
+    let counted = le32(image, header::TAIL_ENTRY_ARRAY_N_ENTRIES);
+    let n_entries = le64(image, header::N_ENTRIES);
+    le64(image, header::TAIL_ENTRY_OFFSET) != 0 && u64::from(counted) <= n_entries
+}
 
 impl File {
     pub fn new(image: &[u8]) -> File {
@@ -30,8 +65,21 @@ impl File {
             .expect("journalctl runs")
     }
 
-    /// `journalctl --verify`: whether it passes the file, or else what it says.
+    /// `journalctl --verify`: whether it passes the file, or else what it says. One that does not know
+    /// compatible bit 1 gets a copy without it, which differs in nothing else.
     pub fn verify(&self) -> Result<(), String> {
+        let mut image = std::fs::read(&self.0).expect("the file is there");
+        let flags = &mut image[header::COMPATIBLE_FLAGS as usize];
+        let bit = TAIL_ENTRY_BOOT_ID as u8;
+        if *flags & bit == 0 || knows_the_boot_bit() {
+            return self.verify_as_it_is();
+        }
+        *flags &= !bit;
+        File::new(&image).verify_as_it_is()
+    }
+
+    /// The same of the file itself, whoever knows its flags.
+    fn verify_as_it_is(&self) -> Result<(), String> {
         let output = self.journalctl(&["--verify"]);
         match output.status.success() {
             true => Ok(()),

@@ -1,11 +1,11 @@
 //! Files with foreign objects among the entries, of each type once. `--verify` of systemd 252 passes
-//! them without a word, and `-o export` shows the entries as if there were none.
+//! them without a word, that of 254 calls them invalid objects, and `-o export` shows the entries as if there were none.
 use checks::generator::foreign::put;
 use checks::random::Random;
 
-use crate::check::{check, exported};
+use crate::check::{check, check_shown, exported};
 use crate::entries::logged;
-use crate::file::File;
+use crate::file::{knows_the_boot_bit, File};
 use crate::written::{append, new, nth};
 
 #[test]
@@ -19,7 +19,11 @@ fn passed_and_shown() {
                 let (at, payloads) = (nth(n + 1), logged(random, n));
                 append(&mut image, at, &payloads);
                 append(&mut plain, at, &payloads);
-                check(&image, n as usize / 8 + 1);
+                let entries = n as usize / 8 + 1;
+                match knows_the_boot_bit() {
+                    true => check_shown(&image, entries),
+                    false => check(&image, entries),
+                }
             }
         }
         let kinds = wrapper::foreign_objects(&image).expect("it opens");

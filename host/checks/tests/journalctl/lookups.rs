@@ -78,9 +78,9 @@ impl Both {
 #[test]
 fn lookups() {
     for cells in CELLS {
-        for keyed in [0, 1] {
+        for (header_size, keyed) in [(256, 0), (256, 1), (272, 1)] {
             let random = &mut Random::new(200 + cells.0 + keyed);
-            let both = Both::new(grown(random, cells, keyed, 120));
+            let both = Both::new(grown(header_size, random, cells, keyed, 120));
 
             assert_eq!(both.held("CONTROLLER=chamber-1"), 120);
             assert_eq!(both.held("MESSAGE=germination test 77 counted"), 1);

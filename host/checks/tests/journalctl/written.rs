@@ -25,12 +25,17 @@ pub fn nth(n: u64) -> At {
     }
 }
 
-/// A new file.
+/// A new file with a header of 256 bytes.
 pub fn new(length: usize, cells: (u64, u64), keyed: u64) -> Vec<u8> {
+    new_with(256, length, cells, keyed)
+}
+
+/// A new file with a header of 256 or 272 bytes.
+pub fn new_with(header_size: u64, length: usize, cells: (u64, u64), keyed: u64) -> Vec<u8> {
     let ids = [[1; 16], MACHINE, [3; 16], [4; 16]].concat();
     let ids = ids[..].try_into().expect("64 bytes");
     let mut image = vec![0; length];
-    let made = wrapper::new(&mut image, ids, cells.0, cells.1, keyed == 1);
+    let made = wrapper::new(&mut image, ids, cells.0, cells.1, keyed == 1, header_size);
     assert_eq!(made, Ok(()));
     image
 }

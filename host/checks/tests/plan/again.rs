@@ -1,5 +1,5 @@
 //! What is written can be written to again: a new file opens, shows nothing and takes the first append,
-//! and a file with an append takes the next one. None of 1 to 14 refuses it, whatever is asked.
+//! and a file with an append takes the next one. None of 1 to 14 and 25 refuses it, whatever is asked.
 use checks::against::plan::Append;
 use checks::generator::dice::{once_in, pick};
 use checks::generator::worked::request;
@@ -8,7 +8,7 @@ use checks::random::Random;
 use reading::request::Request;
 use wrapper::{carry_out, open};
 
-use crate::made::{fields, made, Tried};
+use crate::made::{fields, made_with, Tried};
 
 /// It opens, and no lookup, page or list has anything.
 fn shows_nothing(image: &[u8]) {
@@ -125,17 +125,21 @@ fn until_full(tried: &mut Tried, mut image: Vec<u8>, random: &mut Random) -> u64
 fn new_files_until_they_are_full() {
     let mut tried = Tried::default();
     let (mut files, mut entries, mut most) = (0, 0, 0);
-    let every = (320..1_000).step_by(8).map(|length| (length, (1, 1)));
+    // Room beside the header.
+    let every = (64..744).step_by(8).map(|room| (room, (1, 1)));
     let mut shapes: Vec<(usize, (u64, u64))> = every.collect();
     for cells in [(1, 1), (1, 9), (7, 1), (64, 40)] {
-        let tables = 288 + 16 * (cells.0 + cells.1) as usize;
+        let tables = 32 + 16 * (cells.0 + cells.1) as usize;
         shapes.extend([0, 8, 1_600, 3_000, 9_000, 20_000].map(|more| (tables + more, cells)));
     }
-    shapes.push((1_075_200, (65_536, 1_024)));
-    for (length, cells) in shapes {
-        for keyed in [false, true] {
-            let random = &mut Random::new(length as u64);
-            let image = made(length, cells, keyed);
+    shapes.push((1_074_944, (65_536, 1_024)));
+    for (room, cells) in shapes {
+        let kinds = [(256, false), (272, true), (256, true), (272, false)];
+        // The greatest tables take long.
+        let kinds = &kinds[..if room > 100_000 { 2 } else { 4 }];
+        for &(header_size, keyed) in kinds {
+            let random = &mut Random::new(room as u64);
+            let image = made_with(header_size, header_size as usize + room, cells, keyed);
             let count = until_full(&mut tried, image, random);
             files += 1;
             entries += count;
@@ -145,7 +149,8 @@ fn new_files_until_they_are_full() {
     tried.print("new files until they are full");
     println!("{files} files, {entries} entries, up to {most} in one");
     assert_eq!(tried.0[1..15], [0; 14]);
-    assert!(tried.0[15..].iter().all(|&n| n > 100) && most > 80);
+    assert!(tried.0[15..20].iter().all(|&n| n > 100) && most > 70);
+    assert_eq!(tried.0[25], 0);
 }
 
 /// Files of every kind, which no append made: with one they take the next.
@@ -167,5 +172,5 @@ fn after_any_append() {
         appended += 1;
     }
     tried.print("after any append");
-    assert!(appended > 250 && tried.0[1..15] == [0; 14]);
+    assert!(appended > 250 && tried.0[1..15] == [0; 14] && tried.0[25] == 0);
 }

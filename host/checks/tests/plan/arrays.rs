@@ -1,13 +1,13 @@
 //! Arrays: "First array 4 items, a later one twice the one before, at most 65,536."
 use checks::against::plan::Append;
 use checks::generator::frame::set;
-use checks::generator::full::full;
+use checks::generator::full::full_with;
 use checks::generator::worked::request;
 use reading::image::{le64, Image};
 use reading::layout::{array, header, kind};
 use reading::request::{packed, Request};
 
-use crate::made::{made, Tried};
+use crate::made::{made, made_with, Tried};
 
 fn array_items(image: &[u8]) -> Vec<u64> {
     let image = Image::walked(image);
@@ -19,8 +19,8 @@ fn array_items(image: &[u8]) -> Vec<u64> {
 #[test]
 fn grown_by_appends() {
     let mut tried = Tried::default();
-    for keyed in [false, true] {
-        let mut image = made(65_536, (2, 1), keyed);
+    for (header_size, keyed) in [(256, false), (256, true), (272, true)] {
+        let mut image = made_with(header_size, 65_536, (2, 1), keyed);
         for n in 1..=130 {
             let mut payloads = vec![b"PRIORITY=2".to_vec()];
             payloads.extend((n % 3 == 0).then(|| b"UNIT=a".to_vec()));
@@ -70,7 +70,8 @@ fn sizes_up_to_the_greatest() {
     let mut tried = Tried::default();
     for last in 2..=15 {
         let arrays: Vec<usize> = (2..=last).map(|power| 1 << power).collect();
-        let image = full(&arrays, last % 2 == 0, 1_200_000);
+        let header_size = [256, 272][last / 2 % 2];
+        let image = full_with(header_size, &arrays, last % 2 == 0, 1_200_000);
         // The last array of the DATA's chain has one item less.
         let size = 1u64 << last;
         assert_eq!(
@@ -87,7 +88,7 @@ fn sizes_up_to_the_greatest() {
         (65_536, [65_536, 65_536]),
         (65_537, [65_536, 65_536]),
     ] {
-        let image = full(&[size], false, 1_100_000);
+        let image = full_with(272, &[size], false, 1_100_000);
         assert_eq!(next_items(&mut tried, &image), next, "after {size} items");
     }
     tried.print("sizes up to the greatest");
@@ -131,7 +132,7 @@ fn spare_items() {
 #[test]
 fn arrays_chained_ahead() {
     let mut tried = Tried::default();
-    let mut image = full(&[2, 1, 3], true, 4000);
+    let mut image = full_with(272, &[2, 1, 3], true, 4000);
     let fields = packed(&[b"A=1"]);
     let ask = |seqnum: u64| Request {
         boot_id: [0; 16],

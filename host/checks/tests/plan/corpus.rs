@@ -15,6 +15,7 @@ fn corpus() {
         let number = match name {
             "bullseye-k1-c0-online" | "bullseye-k1-c0-system-archived" => 13,
             "sealed-bullseye-c0-system" => 12,
+            "bookworm-k1-c0-system" => 25,
             _ => opens,
         };
         let mut image = corpus::image(name);

@@ -10,7 +10,7 @@ use reading::layout::header;
 use reading::request::Request;
 use wrapper::carry_out;
 
-use crate::made::made;
+use crate::made::made_with;
 
 #[derive(Default)]
 struct Tried {
@@ -51,8 +51,8 @@ impl Tried {
 #[test]
 fn worked_examples() {
     let mut tried = Tried::default();
-    for keyed in [false, true] {
-        let mut image = made(1024, (1, 1), keyed);
+    for (header_size, keyed) in [(256, false), (256, true), (272, false), (272, true)] {
+        let mut image = made_with(header_size, 1024, (1, 1), keyed);
         let (first, second) = (first(), second());
         for ask in [
             request(&first, LAST, 1700000000000000, 50),
@@ -62,27 +62,33 @@ fn worked_examples() {
         }
     }
     tried.print("worked examples");
-    assert_eq!(tried.cuts, 2 * (73 + 34));
+    assert_eq!(tried.cuts, 2 * (73 + 34) + 2 * (75 + 36));
 }
 
 /// What a host meets after a cut: 13; and with state 0, 14 from the first store of group 3 up to the
 /// commit store.
 #[test]
 fn another_append_after_a_cut() {
-    let image = made(1024, (1, 1), true);
-    let fields = first();
-    let ask = request(&fields, 5, 0, 0);
-    let (_, list) = put(&image, ask, 72);
-    let objects = Append::new(&image, ask).points[0];
-    for k in 0..=72 {
-        let mut image = image.clone();
-        assert_eq!(carry_out(&mut image, &list, k as u64), Ok(()));
-        let next = request(&fields, 6, 0, 0);
-        let number = if k == 0 || k == 72 { 0 } else { 13 };
-        assert_eq!(put(&image, next, 72).0, number, "a cut at {k}");
-        image[header::STATE as usize] = 0;
-        let number = if k <= objects || k >= 71 { 0 } else { 14 };
-        assert_eq!(put(&image, next, 72).0, number, "a cut at {k}, state 0");
+    for (header_size, count) in [(256, 72), (272, 74)] {
+        let image = made_with(header_size, 1024, (1, 1), true);
+        let fields = first();
+        let ask = request(&fields, 5, 0, 0);
+        let (_, list) = put(&image, ask, count);
+        let objects = Append::new(&image, ask).points[0];
+        for k in 0..=count {
+            let mut image = image.clone();
+            assert_eq!(carry_out(&mut image, &list, k as u64), Ok(()));
+            let next = request(&fields, 6, 0, 0);
+            let number = if k == 0 || k == count { 0 } else { 13 };
+            assert_eq!(put(&image, next, count).0, number, "a cut at {k}");
+            image[header::STATE as usize] = 0;
+            let number = if k <= objects || k + 1 >= count {
+                0
+            } else {
+                14
+            };
+            assert_eq!(put(&image, next, count).0, number, "a cut at {k}, state 0");
+        }
     }
 }
 
@@ -146,11 +152,11 @@ fn any_stores_between_syncs() {
 fn every_choice_between_syncs() {
     let random = &mut Random::new(31_000);
     let mut images = 0;
-    for keyed in [false, true] {
-        let mut image = made(1024, (1, 1), keyed);
+    for header_size in [256, 272] {
+        let mut image = made_with(header_size, 1024, (1, 1), header_size == 272);
         let (first, second) = (first(), second());
         for ask in [request(&first, 1, 0, 0), request(&second, 2, 0, 0)] {
-            let tried = orders(&image, ask, (300, 5), random);
+            let tried = orders(&image, ask, (520, 5), random);
             images += tried
                 .unwrap_or_else(|difference| panic!("{difference}"))
                 .expect("taken");
@@ -161,8 +167,8 @@ fn every_choice_between_syncs() {
         }
     }
     println!("every choice between syncs: {images} images");
-    // 300 of the objects, then five counters, links, counts and facts, commit store, state.
-    let first = 300 + 32 + 32 + 128 + 2 + 2;
-    let second = 300 + 32 + 4 + 64 + 2 + 2;
-    assert_eq!(images, 2 * (first + second));
+    // 520 of the objects, then five counters, links, counts and facts, commit store, state.
+    let first = |facts: u64| 520 + 32 + 32 + facts + 2 + 2;
+    let second = |facts: u64| 520 + 32 + 4 + facts + 2 + 2;
+    assert_eq!(images, first(128) + second(64) + first(512) + second(256));
 }

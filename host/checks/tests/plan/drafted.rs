@@ -10,7 +10,7 @@ use reading::request::{packed, Request};
 use crate::made::{made, Tried};
 
 /// A FIELD with three DATA that no entry holds, and one entry with a fourth.
-fn unheld(keyed: bool, stale: bool) -> Draft {
+fn unheld(header_size: u64, keyed: bool, stale: bool) -> Draft {
     let data = |payload: &[u8], n_entries: u64| {
         let entry_offset = if stale || n_entries > 0 {
             Item::Entry(5)
@@ -49,6 +49,7 @@ fn unheld(keyed: bool, stale: bool) -> Draft {
         }),
     ];
     Draft {
+        header_size,
         keyed,
         committed: vec![5],
         entry_array: Some(6),
@@ -62,9 +63,10 @@ fn unheld(keyed: bool, stale: bool) -> Draft {
 #[test]
 fn old_data_of_count_0() {
     let mut tried = Tried::default();
-    for keyed in [false, true] {
+    for (header_size, keyed) in [(256, false), (256, true), (272, false)] {
         for stale in [false, true] {
-            let image = render(&unheld(keyed, stale), &mut Random::new(7)).image;
+            let draft = unheld(header_size, keyed, stale);
+            let image = render(&draft, &mut Random::new(7)).image;
             for chosen in 1u32..32 {
                 let all: [&[u8]; 5] = [b"LOT=1", b"LOT=2", b"LOT=3", b"LOT=", b"LOT=4"];
                 let some: Vec<&[u8]> = (0..5)
@@ -88,13 +90,13 @@ fn old_data_of_count_0() {
 fn longest_images() {
     let mut tried = Tried::default();
     let fields = first();
-    for keyed in [false, true] {
+    for (header_size, keyed) in [(256, false), (272, true)] {
         for room in [408, 416, 424, 4096] {
             // A foreign object up to where the new ones are to begin.
-            let mut draft = unheld(keyed, false);
+            let mut draft = unheld(header_size, keyed, false);
             draft.parts = vec![Part::Foreign {
                 kind: 9,
-                size: MOST_BYTES - 256 - 2 * 48 - room,
+                size: MOST_BYTES - header_size - 2 * 48 - room,
             }];
             (draft.order, draft.committed) = (vec![0], Vec::new());
             (draft.entry_array, draft.noise) = (None, false);

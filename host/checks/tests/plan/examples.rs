@@ -6,7 +6,7 @@ use reading::layout::header;
 use reading::request::packed;
 use wrapper::{entry, open, stamps, Planned};
 
-use crate::made::{made, Tried};
+use crate::made::{made, made_with, Tried};
 
 #[test]
 fn two_appends() {
@@ -52,6 +52,36 @@ fn two_appends() {
     }
 }
 
+/// The same with a header of 272: everything stands 16 bytes later, and group 6 has two stores more.
+#[test]
+fn two_appends_with_272() {
+    let mut tried = Tried::default();
+    for keyed in [false, true] {
+        let mut image = made_with(272, 4096, (1, 1), keyed);
+        let fields = first();
+        let stores = tried.carried(&mut image, request(&fields, LAST, 1700000000000000, 50));
+        assert_eq!(stores.len(), 74);
+        // The array at 696 with one committed item, the ENTRY at 600, and then the commit store.
+        let late = [(256, 1 << 32 | 696), (264, 600), (header::N_ENTRIES, 1)];
+        assert_eq!(stores[70..73], late);
+        let words: Vec<u64> = stores[1..53].iter().map(|store| store.0).collect();
+        assert_eq!(words, (336..752).step_by(8).collect::<Vec<u64>>());
+        let kinds = [(336, 1), (424, 2), (472, 1), (552, 2), (600, 3), (696, 6)];
+        assert!(kinds.iter().all(|kind| stores.contains(kind)));
+        assert_eq!(open(&image), Ok(()));
+
+        let fields = second();
+        let next = request(&fields, LAST + 1, 1700000000000001, 60);
+        let stores = tried.carried(&mut image, next);
+        assert_eq!(stores.len(), 35);
+        assert!(stores.contains(&(752, 3)) && stores.contains(&(832, 6)));
+        let late = [(256, 2 << 32 | 696), (264, 752), (header::N_ENTRIES, 2)];
+        assert_eq!(stores[31..34], late);
+        // No flag is changed: compatible bit 1, and the keyed hash or not.
+        assert_eq!(image[8..16], [2, 0, 0, 0, 4 * keyed as u8, 0, 0, 0]);
+    }
+}
+
 #[test]
 fn arena_480_holds_it_and_472_is_18() {
     let mut tried = Tried::default();
@@ -60,6 +90,10 @@ fn arena_480_holds_it_and_472_is_18() {
     for keyed in [false, true] {
         assert_eq!(tried.append(&made(736, (1, 1), keyed), ask), 0);
         assert_eq!(tried.append(&made(728, (1, 1), keyed), ask), 18);
+        for (length, number) in [(752, 0), (744, 18), (736, 18)] {
+            let image = made_with(272, length, (1, 1), keyed);
+            assert_eq!(tried.append(&image, ask), number);
+        }
         // The arena's end, and not the image's.
         for (arena, number) in [(480, 0), (472, 18)] {
             let mut image = made(4096, (1, 1), keyed);

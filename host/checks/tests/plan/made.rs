@@ -8,13 +8,18 @@ use wrapper::{carry_out, new, Planned};
 pub const MACHINE: [u8; 16] = [2; 16];
 pub const BOOT: [u8; 16] = [5; 16];
 
-/// A new file of the archive, for `request` of the worked examples.
+/// A new file of the archive, for `request` of the worked examples, with a header of 256 bytes.
 pub fn made(length: usize, cells: (u64, u64), keyed: bool) -> Vec<u8> {
+    made_with(256, length, cells, keyed)
+}
+
+/// The same with a header of 256 or 272 bytes.
+pub fn made_with(header_size: u64, length: usize, cells: (u64, u64), keyed: bool) -> Vec<u8> {
     let ids = [[1; 16], MACHINE, [3; 16], [4; 16]].concat();
     let mut image = Random::new(length as u64).bytes(length);
     let ids = ids[..].try_into().expect("64 bytes");
     assert_eq!(
-        new(&mut image, ids, cells.0, cells.1, keyed),
+        new(&mut image, ids, cells.0, cells.1, keyed, header_size),
         Ok(()),
         "a new file of {length} bytes"
     );
@@ -34,7 +39,7 @@ pub fn list(stores: &[(u64, u64)]) -> Vec<u8> {
 
 /// How many appends were tried, by the answer: the refusal, or 0.
 #[derive(Default)]
-pub struct Tried(pub [u64; 20]);
+pub struct Tried(pub [u64; 26]);
 
 impl Tried {
     fn count(&mut self, planned: Planned) -> u64 {
@@ -82,7 +87,7 @@ impl Tried {
     pub fn print(&self, what: &str) {
         let all: u64 = self.0.iter().sum();
         println!(
-            "{what}: {all} appends, by their answers 0 to 19 {:?}",
+            "{what}: {all} appends, by their answers 0 to 25 {:?}",
             self.0
         );
     }

@@ -7,12 +7,12 @@ use checks::generator::{appends, grown, requests};
 use checks::random::Random;
 use reading::image::{arena_end, le64, name_of, Image};
 use reading::layout::header;
-use reading::refusal::refusal;
+use reading::refusal::{refusal, APPEND_ORDER};
 use reading::request::{distinct, unpacked, Request};
 use reading::room::{places, Placed, Slot};
 use wrapper::{carry_out, plan, Planned};
 
-use crate::made::{fields, made, Tried, BOOT, MACHINE};
+use crate::made::{fields, made_with, Tried, BOOT, MACHINE};
 
 /// What is special about an append that is taken.
 fn special(image: &[u8], request: &Request) -> Vec<&'static str> {
@@ -26,6 +26,11 @@ fn special(image: &[u8], request: &Request) -> Vec<&'static str> {
             seen.push(what);
         }
     };
+    let late = le64(image, header::HEADER_SIZE) == 272;
+    let boot_bit = image[header::COMPATIBLE_FLAGS as usize] == 2;
+    see(!late, "a header of 256");
+    see(late && !boot_bit, "a header of 272");
+    see(late && boot_bit, "a header of 272 with compatible bit 1");
     let keyed = image[header::INCOMPATIBLE_FLAGS as usize] != 0;
     see(keyed, "keyed");
     see(!keyed, "not keyed");
@@ -96,7 +101,7 @@ fn special(image: &[u8], request: &Request) -> Vec<&'static str> {
 }
 
 /// What `special` can say.
-const KINDS: usize = 25;
+const KINDS: usize = 28;
 
 #[test]
 fn appends_of_every_kind() {
@@ -126,7 +131,8 @@ fn appends_of_every_kind() {
         println!("{n:>6}  {what}");
     }
     assert_eq!(seen.len(), KINDS, "some kind of append was not seen");
-    assert!(tried.0[0] > 2_000 && tried.0[12..].iter().all(|&n| n > 20));
+    assert!(tried.0[0] > 2_000);
+    assert!(APPEND_ORDER.iter().all(|&it| tried.0[it as usize] > 20));
 }
 
 /// Files that the archive makes and writes: every append is compared, and then carried out.
@@ -138,7 +144,10 @@ fn files_that_grow() {
         let random = &mut Random::new(seed + 50_000_000);
         let mut image = match seed % 3 {
             0 => grown::grown(random, 4),
-            _ => made(3_000 + 8 * random.below(2_000), (3, 2), seed % 2 == 0),
+            it => {
+                let length = 3_000 + 8 * random.below(2_000);
+                made_with([256, 272][it as usize - 1], length, (3, 2), seed % 2 == 0)
+            }
         };
         for _ in 0..25 {
             let mut asked = requests::fitting(random, &image);
@@ -166,7 +175,8 @@ fn a_file_of_many_entries() {
     let mut tried = Tried::default();
     for keyed in [false, true] {
         let random = &mut Random::new(60_000_000);
-        let mut image = made(200_000, (50, 7), keyed);
+        let header_size = if keyed { 272 } else { 256 };
+        let mut image = made_with(header_size, 200_000, (50, 7), keyed);
         let mut list = vec![0; 16 * 1_000];
         for n in 1..=400 {
             let payloads = [

@@ -6,7 +6,7 @@ use reading::image::Image;
 use reading::layout::header;
 use reading::request::packed;
 
-use crate::made::{fields, made, Tried};
+use crate::made::{fields, made, made_with, Tried};
 
 /// Payloads whose hashes fall in one cell, or names, or both; after nothing, and after old ones.
 #[test]
@@ -84,7 +84,12 @@ fn arenas_around_the_end() {
         ((3, 2), vec![b"OLD=1"]),
         ((3, 2), vec![b"OLD=1", b"OLD=2", b"NEW=1"]),
     ] {
-        let mut image = made(4096, cells, payloads.len() > 1);
+        let header_size = if cells == (1, 1) || payloads.len() > 2 {
+            272
+        } else {
+            256
+        };
+        let mut image = made_with(header_size, 4096, cells, payloads.len() > 1);
         let old = packed(&[b"OLD=1", b"C=1"]);
         for seqnum in 1..=4 {
             tried.carried(&mut image, request(&old, seqnum, 0, 0));
@@ -100,7 +105,7 @@ fn arenas_around_the_end() {
             for trailing in [0, 5, 800] {
                 let mut image = image.clone();
                 image.resize(arena_end as usize + trailing, 0xaa);
-                set(&mut image, header::ARENA_SIZE, arena_end - 256);
+                set(&mut image, header::ARENA_SIZE, arena_end - header_size);
                 assert_eq!(tried.append(&image, ask), number);
             }
         }

@@ -6,7 +6,7 @@ use checks::generator::worked::{first, request};
 use checks::random::Random;
 use wrapper::carry_out;
 
-use crate::made::{list, made, Tried};
+use crate::made::{list, made_with, Tried};
 
 /// The image with the first k stores carried out by the archive.
 fn carried(image: &[u8], list: &[u8], k: usize) -> Vec<u8> {
@@ -52,20 +52,23 @@ fn after_any_stores() {
 #[test]
 fn cut_once_more() {
     let mut tried = Tried::default();
-    let image = made(1024, (1, 1), true);
-    let fields = first();
-    let stores = tried.carried(&mut image.clone(), request(&fields, 1, 0, 0));
-    let whole = list(&stores);
-    for k in 0..=72 {
-        let cut = carried(&image, &whole, k);
-        for j in 0..=72 {
-            // From an image that has all, only the state is stored back for a while.
-            let like = match (k, j) {
-                (72, 1..72) => 71,
-                _ => k.max(j),
-            };
-            let again = carried(&cut, &whole, j);
-            assert!(again == carried(&image, &whole, like), "{k}, then {j}");
+    for (header_size, count) in [(256, 72), (272, 74)] {
+        let image = made_with(header_size, 1024, (1, 1), true);
+        let fields = first();
+        let stores = tried.carried(&mut image.clone(), request(&fields, 1, 0, 0));
+        let whole = list(&stores);
+        assert_eq!(stores.len(), count);
+        for k in 0..=count {
+            let cut = carried(&image, &whole, k);
+            for j in 0..=count {
+                // From an image that has all, only the state is stored back for a while.
+                let like = match k == count && 0 < j && j < count {
+                    true => count - 1,
+                    false => k.max(j),
+                };
+                let again = carried(&cut, &whole, j);
+                assert!(again == carried(&image, &whole, like), "{k}, then {j}");
+            }
         }
     }
 }

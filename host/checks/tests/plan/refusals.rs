@@ -1,21 +1,18 @@
-//! Every clause of 1 to 19, alone and combined: the lowest number is the answer, and nothing is
-//! written.
+//! Every clause of 1 to 19 and 25, alone and combined: the first in the order of tests is the answer,
+//! and nothing is written.
 use std::collections::BTreeMap;
 
 use checks::against::plan::Append;
 use checks::generator::appends::{combined, targeted, Case};
-use checks::generator::frame::set;
 use checks::generator::requests::{fitting, mutate};
 use checks::generator::worked::request;
 use checks::generator::{good, mutation};
 use checks::random::Random;
-use reading::image::le64;
-use reading::layout::header;
 use reading::refusal::clause::LIST_SHORT;
 use reading::refusal::{Clause, APPEND_CLAUSES, CLAUSES};
 use reading::request::{packed, Request};
 
-use crate::made::{made, Tried};
+use crate::made::Tried;
 
 type Table = BTreeMap<Clause, u64>;
 
@@ -40,13 +37,13 @@ fn print(all: &[Clause], alone: &Table, together: &Table) {
             clause.number, clause.name
         );
         assert!(alone > 0, "{clause:?}");
-        // Nothing is above 19.
+        // Nothing is tested after 19.
         assert!(together > 0 || *clause == LIST_SHORT, "{clause:?}");
     }
 }
 
 #[test]
-fn every_clause_of_12_to_19() {
+fn every_clause_of_an_append() {
     let mut tried = Tried::default();
     let (mut alone, mut together) = (Table::new(), Table::new());
     for (number, &clause) in APPEND_CLAUSES.iter().enumerate() {
@@ -68,7 +65,7 @@ fn every_clause_of_12_to_19() {
         }
     }
     print(APPEND_CLAUSES, &alone, &together);
-    tried.print("targeted mutations for 12 to 19");
+    tried.print("targeted mutations for an append");
 }
 
 /// Refusals of the image come first, whatever is asked.
@@ -121,51 +118,4 @@ fn no_journals() {
         };
         assert_eq!(tried.append(&vec![0; length], nothing), number);
     }
-}
-
-/// Every set of the numbers 12 to 19 together, on one file: the lowest is the answer.
-#[test]
-fn every_set_of_numbers() {
-    let mut tried = Tried::default();
-    for keyed in [false, true] {
-        let mut whole = made(4096, (3, 2), keyed);
-        let old = packed(&[b"LOT=1", b"STATE=wet"]);
-        tried.carried(&mut whole, request(&old, 7, 7, 7));
-        let good = packed(&[b"LOT=1", b"LOT=2"]);
-        for set_of in 0u32..256 {
-            let has = |number: u32| set_of >> (number - 12) & 1 == 1;
-            let mut image = whole.clone();
-            let mut ask = request(&good, 8, 8, 8);
-            if has(12) {
-                image[header::COMPATIBLE_FLAGS as usize] = 1;
-            }
-            if has(13) {
-                image[header::STATE as usize] = 1;
-            }
-            if has(14) {
-                let n_data = le64(&image, header::N_DATA);
-                set(&mut image, header::N_DATA, n_data + 1);
-            }
-            if has(15) {
-                ask.machine_id[15] ^= 0x80;
-            }
-            if has(16) {
-                ask.fields = &good[..good.len() - 1];
-            }
-            if has(17) {
-                ask.seqnum = 7;
-            }
-            if has(18) {
-                let tail = le64(&image, header::TAIL_OBJECT_OFFSET);
-                let end = tail + le64(&image, tail + 8);
-                set(&mut image, header::ARENA_SIZE, end + 64 - 256);
-            }
-            let append = Append::new(&image, ask);
-            let length = if has(19) { 31 } else { 16 * 500 };
-            let lowest = (12..=19).find(|&number| has(number)).unwrap_or(0);
-            let (number, _) = tried.with_list(&append, length);
-            assert_eq!(number, u64::from(lowest), "{set_of:08b}");
-        }
-    }
-    tried.print("every set of numbers");
 }

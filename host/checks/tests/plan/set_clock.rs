@@ -19,7 +19,12 @@ fn taken_below_the_last() {
     let mut below = 0;
     for (what, times) in series() {
         for keyed in [0, 1] {
-            let kind = Kind { keyed, ..PLAIN };
+            let header_size = if keyed == 1 { 272 } else { 256 };
+            let kind = Kind {
+                keyed,
+                header_size,
+                ..PLAIN
+            };
             let mut image = kind.empty();
             for (&time, n) in times.iter().zip(0..) {
                 let fields = fields(n);
@@ -86,6 +91,7 @@ fn cut_at_every_store() {
         let step = if times.len() < 20 { 7 } else { 61 };
         let kind = Kind {
             keyed: appends % 2,
+            header_size: [256, 272][appends as usize / 2 % 2],
             ..PLAIN
         };
         let mut image = kind.empty();

@@ -13,24 +13,30 @@ use checks::generator::worked::{first, request, second, LAST};
 use checks::generator::{appends, grown, requests};
 use checks::random::Random;
 use reading::carry::Store;
+use reading::image::le64;
 use reading::layout::header;
 use reading::plan::{groups, plan};
 use reading::request::{packed, Request};
 
-use crate::made::{made, Tried};
+use crate::made::{made_with, Tried};
 
 #[test]
 fn worked_examples() {
     let mut tried = Tried::default();
-    for keyed in [false, true] {
-        let mut image = made(4096, (1, 1), keyed);
-        for (fields, seqnum, points) in [
-            (first(), LAST, [53, 58, 63, 70, 71, 72]),
-            (second(), LAST + 1, [18, 23, 25, 31, 32, 33]),
-        ] {
-            let ask = request(&fields, seqnum, 0, 0);
-            assert_eq!(Append::new(&image, ask).points, points);
-            tried.carried(&mut image, ask);
+    // In a header of 272 group 6 has two stores more.
+    for (header_size, of_first, of_second) in [
+        (256, [53, 58, 63, 70, 71, 72], [18, 23, 25, 31, 32, 33]),
+        (272, [53, 58, 63, 72, 73, 74], [18, 23, 25, 33, 34, 35]),
+    ] {
+        for keyed in [false, true] {
+            let mut image = made_with(header_size, 4096, (1, 1), keyed);
+            for (fields, seqnum, points) in
+                [(first(), LAST, of_first), (second(), LAST + 1, of_second)]
+            {
+                let ask = request(&fields, seqnum, 0, 0);
+                assert_eq!(Append::new(&image, ask).points, points);
+                tried.carried(&mut image, ask);
+            }
         }
     }
 }
@@ -64,7 +70,7 @@ fn by_shape() {
     let mut tried = Tried::default();
     let mut shapes = BTreeMap::new();
     let mut most = 0;
-    for seed in 0..400 {
+    for seed in 0..800 {
         let random = &mut Random::new(seed + 21_000);
         let image = grown::grown(random, 12);
         let asked = requests::fitting(random, &image);
@@ -72,15 +78,18 @@ fn by_shape() {
             continue;
         };
         assert_eq!(tried.append(&image, asked.request()), 0);
-        let first = groups[5].len() == 7;
+        let first = le64(&image, header::N_ENTRIES) == 0;
         let keyed = image[header::INCOMPATIBLE_FLAGS as usize] != 0;
-        let shape = (keyed, first, groups[4].is_empty());
+        let header_size = le64(&image, header::HEADER_SIZE);
+        let shape = (header_size, keyed, first, groups[4].is_empty());
+        let facts = [5, 7][usize::from(first)] + [0, 2][usize::from(header_size == 272)];
+        assert_eq!(groups[5].len(), facts);
         *shapes.entry(shape).or_insert(0) += 1;
         most = most.max(groups[3].len());
     }
-    println!("(keyed, a first entry, no old DATA): {shapes:?}, up to {most} links");
+    println!("(header, keyed, a first entry, no old DATA): {shapes:?}, up to {most} links");
     // A first entry has no old DATA here.
-    assert!(shapes.len() == 6 && shapes.values().all(|&n| n > 5) && most > 15);
+    assert!(shapes.len() == 12 && shapes.values().all(|&n| n > 5) && most > 15);
 }
 
 /// The image with these words stored before the append.
@@ -121,7 +130,8 @@ fn group_4_there_already() {
     let (mut empty, mut some) = (0, 0);
     for seed in 0..8 {
         let random = &mut Random::new(seed + 22_000);
-        let mut image = made(8192, (1 + seed, 2), seed % 2 == 0);
+        let header_size = [256, 272][seed as usize / 4];
+        let mut image = made_with(header_size, 8192, (1 + seed, 2), seed % 2 == 0);
         // One DATA, several, and all of them old from the second entry on.
         let fields = match seed % 3 {
             0 => packed(&[b"LOT=1"]),

@@ -16,8 +16,8 @@ fn real_files() {
         ("bullseye-k1-c0-online", 0, 37, 13),
         ("bullseye-k1-c0-system-archived", 0, 37, 13),
         ("sealed-bullseye-c0-system", 0, 3, 12),
-        ("bookworm-k1-c0-system", 5, 0, 5),
-        ("trixie-k1-c0-system", 5, 0, 5),
+        ("bookworm-k1-c0-system", 0, 3, 25),
+        ("trixie-k1-c0-system", 0, 3, 0),
         ("trixie-k1-c1-system", 4, 0, 4),
     ] {
         let image = corpus::image(name);

@@ -65,6 +65,8 @@ fn a_new_file_of_320_fits_and_312_is_20() {
     refused(4096, &|new| new.data_cells = 0);
     refused(4096, &|new| new.field_cells = 0);
     refused(4096, &|new| new.keyed = 2);
+    refused(4096, &|new| new.header_size = 264);
+    refused(328, &|new| new.header_size = 272);
     refused(4096, &|new| new.data_cells = u64::MAX / 16 + 2);
     refused(8_388_608, &|new| new.data_cells = 65_537);
     refused(8_388_608, &|new| new.field_cells = 1_025);

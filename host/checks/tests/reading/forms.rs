@@ -6,6 +6,7 @@ use checks::random::Random;
 use reading::layout::{data, entry, header};
 use reading::lookup::open;
 use reading::plan::plan;
+use reading::tail::tail;
 
 use crate::freedoms::count;
 
@@ -21,6 +22,19 @@ fn appends_have_every_form() {
             panic!("opens")
         };
         let mut seen = Vec::new();
+        seen.push(match (journal.image.header_size(), case.image[8]) {
+            (256, 0) => "a header of 256",
+            (272, 0) => "a header of 272",
+            (272, 2) => "a header of 272 with compatible bit 1",
+            other => panic!("{other:?}"),
+        });
+        let arrays = journal
+            .image
+            .arrays(journal.image.word(header::ENTRY_ARRAY_OFFSET));
+        let tail = tail(&journal.image).array_offset;
+        if tail != 0 && arrays.last().is_some_and(|last| last.offset != tail) {
+            seen.push("arrays chained ahead");
+        }
         let items = journal
             .image
             .chain_items(journal.image.word(header::ENTRY_ARRAY_OFFSET));
@@ -65,6 +79,6 @@ fn appends_have_every_form() {
     for (what, times) in &table {
         println!("{times:>6} {what}");
     }
-    assert_eq!(table.len(), 10);
+    assert_eq!(table.len(), 14);
     assert!(table.values().all(|&times| times >= 20));
 }

@@ -6,7 +6,7 @@ use checks::generator::good;
 use checks::generator::rendered::Rendered;
 use checks::random::Random;
 use reading::committed::{counted, list};
-use reading::layout::data;
+use reading::layout::{data, TAIL_ENTRY_BOOT_ID};
 use reading::lookup::open;
 
 /// What is special about a good image.
@@ -27,6 +27,15 @@ fn freedoms(made: &Rendered) -> Vec<&'static str> {
             seen.push(what);
         }
     };
+    for (size, without, with_bit) in [
+        (256, "a header of 256", "a header of 256 with bit 1"),
+        (264, "a header of 264", "a header of 264 with bit 1"),
+        (272, "a header of 272", "a header of 272 with bit 1"),
+    ] {
+        let bit = draft.compatible_flags & TAIL_ENTRY_BOOT_ID != 0;
+        see(draft.header_size == size && !bit, without);
+        see(draft.header_size == size && bit, with_bit);
+    }
     see(
         draft.data_cells == 1 && draft.field_cells == 1,
         "one cell each",
@@ -155,6 +164,6 @@ fn good_images_have_every_freedom() {
     for (what, times) in &table {
         println!("{times:>6} {what}");
     }
-    assert_eq!(table.len(), 32);
+    assert_eq!(table.len(), 38);
     assert!(table.values().all(|&times| times >= 40));
 }

@@ -8,6 +8,7 @@ mod foreign;
 mod forms;
 mod freedoms;
 mod index;
+mod late;
 mod merged;
 mod merged_answers;
 mod pages;

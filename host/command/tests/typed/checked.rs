@@ -1,4 +1,5 @@
-//! `check`: whether a file opens, whether it takes appends, and how much room is left in it.
+//! `check`: whether a file opens, whether it takes appends, how much room is left in it, and what its
+//! header is.
 use crate::person::{append, asked, bytes, file, folder, made, typed, MACHINE};
 use checks::corpus;
 use checks::generator::frame::set;
@@ -9,7 +10,7 @@ use reading::image::{le64, Image};
 use reading::layout::header;
 use std::path::Path;
 
-/// The three lines that are always there.
+/// The first three lines.
 fn lines(path: &Path) -> [String; 3] {
     let text = asked("check", path).done();
     let lines = Vec::from_iter(text.lines().take(3).map(str::to_string));
@@ -23,19 +24,23 @@ fn word_for_word() {
     let expected = format!(
         "opens, 2 entries\n\
          takes appends with --machine {MACHINE}\n\
-         room: 3224 of 3840 bytes left, for about 11 entries of 276 bytes, the present mean\n"
+         room: 3224 of 3840 bytes left, for about 11 entries of 276 bytes, the present mean\n\
+         header: 256 bytes; its boot id need not be that of the last entry\n"
     );
     assert_eq!(asked("check", &path).done(), expected);
     // A file of this machine, and without entries.
     let own = folder.join("own.journal");
     typed("new", &own, &["--size", "65536"]).done();
-    let expected = "opens, 0 entries\ntakes appends\nroom: 64160 of 65280 bytes left\n";
+    let expected = "opens, 0 entries\n\
+                    takes appends\n\
+                    room: 64160 of 65280 bytes left\n\
+                    header: 256 bytes; its boot id need not be that of the last entry\n";
     assert_eq!(asked("check", &own).done(), expected);
     typed("append", &own, &["A=1"]).done();
     assert_eq!(lines(&own)[1], "takes appends");
 }
 
-/// 12 to 14: `check` says what `append` does.
+/// 12 to 14 and 25: `check` says what `append` does.
 #[test]
 fn files_that_take_none() {
     let folder = folder("check-none");
@@ -46,6 +51,7 @@ fn files_that_take_none() {
     set(&mut untidy, header::N_OBJECTS, objects + 1);
     for (name, image, number) in [
         ("sealed", corpus::image("sealed-bullseye-c0-system"), 12),
+        ("short", corpus::image("bookworm-k1-c0-system"), 25),
         ("online", corpus::image("bullseye-k1-c0-online"), 13),
         ("untidy", untidy, 14),
     ] {
@@ -108,7 +114,7 @@ fn room() {
             .collect();
         let (tables, end) = (ends[1], *ends.last().expect("objects"));
         let arena = le64(&image, header::ARENA_SIZE);
-        let left = 256 + arena - end;
+        let left = le64(&image, header::HEADER_SIZE) + arena - end;
         let [opens, _, room] = lines(&file(&folder, "good.journal", &image));
         let start = format!("room: {left} of {arena} bytes left");
         let rest = room.strip_prefix(&start).expect("what is left");

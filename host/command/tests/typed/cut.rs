@@ -40,10 +40,14 @@ pub fn told(path: &Path, name: &str, number: usize) -> Said {
 /// A file with two entries; the same in the course of the append of a third, at each of its syncs;
 /// and after it.
 pub fn course(folder: &Path) -> (Vec<u8>, Vec<Vec<u8>>) {
-    let path = made(folder, "two.journal", "4096");
-    append(&path, 1, &["A=1"]).done();
-    append(&path, 2, &["A=1"]).done();
-    let before = bytes(&path);
+    course_of(&made(folder, "two.journal", "4096"))
+}
+
+/// The same of a file that is new.
+pub fn course_of(path: &Path) -> (Vec<u8>, Vec<Vec<u8>>) {
+    append(path, 1, &["A=1"]).done();
+    append(path, 2, &["A=1"]).done();
+    let before = bytes(path);
     let fields: [&[u8]; 2] = [b"A=1", b"B=2"];
     let list = stores(&before, 3, &fields);
     let points = sync_points(&groups(&before, 3, &fields));

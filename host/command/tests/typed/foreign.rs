@@ -23,10 +23,10 @@ fn with_three(name: &str) -> PathBuf {
     path
 }
 
-/// What `check` says after its three lines.
+/// What `check` says after the lines that it has of every file.
 fn checked(path: &Path) -> String {
     let text = asked("check", path).done();
-    text.split_inclusive('\n').skip(3).collect()
+    text.split_inclusive('\n').skip(4).collect()
 }
 
 #[test]
@@ -52,6 +52,7 @@ fn word_for_word() {
         "opens, 2 entries\n\
          takes appends with --machine {MACHINE}\n\
          room: 3240 of 3840 bytes left, for about 13 entries of 244 bytes, the present mean\n\
+         header: 256 bytes; its boot id need not be that of the last entry\n\
          foreign objects: 3 (2 of type 9, 1 of type 200)\n"
     );
     assert_eq!(asked("check", &path).done(), expected);

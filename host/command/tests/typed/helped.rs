@@ -71,6 +71,7 @@ fn options() {
         "--data-cells",
         "--field-cells",
         "--unkeyed",
+        "--header-size",
         "--machine",
         "--boot",
         "--monotonic",
@@ -99,7 +100,7 @@ fn options() {
             }
         }
     }
-    assert_eq!(taken.len(), 7 + 10 + 7 + 2 + 8 + 8 + 2, "{taken:?}");
+    assert_eq!(taken.len(), 7 + 10 + 7 + 2 + 9 + 8 + 2, "{taken:?}");
 }
 
 /// After `--` it is a name.

@@ -10,6 +10,7 @@ mod files;
 mod foreign;
 mod forms;
 mod given_back;
+mod headers;
 mod helped;
 mod json;
 mod locked;

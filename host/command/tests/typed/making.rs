@@ -12,12 +12,14 @@ use std::path::Path;
 use std::process::Command;
 
 /// The file is the one that the rules describe, with the ids that stand in it.
-fn is_new(path: &Path, length: u64, data_cells: u64, field_cells: u64, keyed: u64) {
+fn is_new(path: &Path, length: u64, cells: [u64; 2], keyed: u64, header_size: u64) {
     let image = bytes(path);
+    let [data_cells, field_cells] = cells;
     let new = NewFile {
         data_cells,
         field_cells,
         keyed,
+        header_size,
         file_id: id(&image, header::FILE_ID),
         machine_id: id(&image, header::MACHINE_ID),
         boot_id: id(&image, header::BOOT_ID),
@@ -40,7 +42,7 @@ fn as_chosen_here() {
     let said = asked("new", &one).done();
     let start = "made, 8388608 bytes, 8192 data cells, 512 field cells, keyed, file id ";
     let shown = said.strip_prefix(start).expect("what was made");
-    is_new(&one, MOST_BYTES, 8_192, 512, 1);
+    is_new(&one, MOST_BYTES, [8_192, 512], 1, 256);
     assert_eq!(checked(&one), "opens, 0 entries\n");
 
     let ids = |path: &Path| {
@@ -82,15 +84,19 @@ fn as_asked_for() {
     ];
     let said = typed("new", &path, &words).done();
     assert!(said.starts_with("made, 320 bytes, 1 data cells, 1 field cells, unkeyed, "));
-    is_new(&path, 320, 1, 1, 0);
+    is_new(&path, 320, [1, 1], 0, 256);
     let image = bytes(&path);
     assert_eq!(id(&image, header::MACHINE_ID), [2; 16]);
     assert_eq!(id(&image, header::BOOT_ID), [5; 16]);
 
-    for (size, data_cells, field_cells) in [(320, 1, 1), (65_536, 64, 4), (1 << 20, 1_024, 64)] {
-        let path = folder.join(format!("{size}.journal"));
-        typed("new", &path, &[format!("--size={size}")]).done();
-        is_new(&path, size, data_cells, field_cells, 1);
+    for (size, cells) in [(336, [1, 1]), (65_536, [64, 4]), (1 << 20, [1_024, 64])] {
+        for header_size in [256, 272] {
+            let path = folder.join(format!("{size}-{header_size}.journal"));
+            let words = [("--size", size), ("--header-size", header_size)];
+            let words = words.map(|(name, value)| format!("{name}={value}"));
+            typed("new", &path, &words).done();
+            is_new(&path, size, cells, 1, header_size);
+        }
     }
 }
 

@@ -64,7 +64,8 @@ fn real_files() {
         let refused = append(&path, 1_000_000, &["A=1"]).refused(&path);
         let expected = match name {
             "sealed-bullseye-c0-system" => 12,
-            "bullseye-k0-c0-system" => 15,
+            "bookworm-k1-c0-system" => 25,
+            "bullseye-k0-c0-system" | "trixie-k1-c0-system" => 15,
             _ => 13,
         };
         assert_eq!(refused, expected, "{name}");
@@ -136,6 +137,10 @@ fn new_files() {
         &["--data-cells", "65537"],
         &["--field-cells", "0"],
         &["--field-cells", "1025"],
+        &["--header-size", "0"],
+        &["--header-size", "264"],
+        &["--header-size", "280"],
+        &["--header-size", "18446744073709551615"],
     ];
     for words in wrong {
         assert_eq!(typed("new", &path, words).refused(&path), 20, "{words:?}");

@@ -1,5 +1,5 @@
 //! What is said of two files where one of them can't be read.
-use crate::person::{asked, folder};
+use crate::person::{asked, bytes, file, folder};
 use crate::two::{both, of_two};
 use checks::corpus;
 use std::fs::File;
@@ -22,15 +22,14 @@ fn all_say(files: &[PathBuf; 2]) -> String {
     words
 }
 
-/// The first file's refusal, else the second's, with the name of the file: 5 and 4 of real files.
+/// The first file's refusal, else the second's, with the name of the file: 4 of a real file, and 5 of
+/// one that was cut short.
 #[test]
 fn refused() {
-    let [good, five, four] = [
-        "bullseye-k1-c0-online",
-        "bookworm-k1-c0-system",
-        "trixie-k1-c1-system",
-    ]
-    .map(corpus::path);
+    let folder = folder("two-refused");
+    let [good, four] = ["bullseye-k1-c0-online", "trixie-k1-c1-system"].map(corpus::path);
+    let whole = bytes(&good);
+    let five = file(&folder, "cut.journal", &whole[..whole.len() - 8]);
     for (first, second, of) in [
         (&five, &good, &five),
         (&good, &five, &five),
@@ -41,7 +40,6 @@ fn refused() {
         let words = all_say(&[first.clone(), second.clone()]);
         assert_eq!(words, asked("list", of).failed(3));
     }
-    let folder = folder("two-missing");
     let missing = folder.join("missing.journal");
     let words = format!("{}: there is no such file or folder", missing.display());
     assert_eq!(all_say(&[missing.clone(), good.clone()]), words);

@@ -103,6 +103,10 @@ fn wrong_words() {
             &["new", other, "--size", "17592186044416M"],
             "--size 17592186044416M: above 2^64 - 1",
         ),
+        (
+            &["new", other, "--header-size", "long"],
+            "--header-size long: no number",
+        ),
         (&["new", other, "--wait", "1"], "no option --wait"),
         (&["new", other, "--anyway"], "no option --anyway"),
         (

@@ -81,7 +81,7 @@ fn fields() {
 #[test]
 fn new_files() {
     let path = folder("why-new").join("new.journal");
-    let wrong: [(&[&str], &str); 7] = [
+    let wrong: [(&[&str], &str); 10] = [
         (&["--size", "65537"], "--size 65537: it is no multiple of 8"),
         (
             &["--size", "8388616"],
@@ -106,6 +106,18 @@ fn new_files() {
         (
             &["--size", "4K", "--data-cells", "300"],
             "--size 4096: 300 data cells and 1 field cell need 5104 bytes, without an entry",
+        ),
+        (
+            &["--header-size", "264"],
+            "--header-size 264: a file is made with 256 or 272",
+        ),
+        (
+            &["--size", "8", "--header-size", "18446744073709551615"],
+            "--header-size 18446744073709551615: a file is made with 256 or 272",
+        ),
+        (
+            &["--size", "328", "--header-size", "272"],
+            "--size 328: 1 data cell and 1 field cell need 336 bytes, without an entry",
         ),
     ];
     for (words, expected) in wrong {

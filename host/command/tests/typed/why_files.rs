@@ -28,10 +28,13 @@ fn by_a_newer_systemd() {
         "the file was written by a newer systemd, in its compact form, which is not read \
                    here: use journalctl for it";
     assert_eq!(of(&corpus::path("trixie-k1-c1-system"), 4), compact);
+    let mut image = corpus::image("trixie-k1-c0-system");
+    set(&mut image, header::HEADER_SIZE, 280);
     let longer =
-        "the file was written by a newer systemd, its header has 272 bytes and 256 are read \
-                  here: use journalctl for it";
-    assert_eq!(of(&corpus::path("trixie-k1-c0-system"), 5), longer);
+        "the file was written by a newer systemd, its header has 280 bytes, and 256, 264 or \
+                  272 are read here: use journalctl for it";
+    let path = file(&folder("why-newer"), "newer.journal", &image);
+    assert_eq!(of(&path, 5), longer);
 }
 
 #[test]
@@ -64,11 +67,19 @@ fn sizes() {
         of(&file(&folder, "size.journal", &image), 5)
     };
     let older =
-        "the file was written by an older systemd, its header has 240 bytes and 256 are read \
-                 here: use journalctl for it";
+        "the file was written by an older systemd, its header has 240 bytes, and 256, 264 or \
+                 272 are read here: use journalctl for it";
     assert_eq!(changed(header::HEADER_SIZE, 240), older);
-    let damaged = "the file is damaged, its header_size is 7 and not 256: restore it from a copy";
-    assert_eq!(changed(header::HEADER_SIZE, 7), damaged);
+    for size in [7, 257, 271] {
+        let damaged = format!(
+            "the file is damaged, its header_size is {size} and not 256, 264 or 272: restore it from \
+             a copy"
+        );
+        assert_eq!(changed(header::HEADER_SIZE, size), damaged);
+    }
+    // With a longer header the arena passes the end of the file.
+    let short = "the end of the file is missing, it has 4096 bytes of 4112: restore it from a copy";
+    assert_eq!(changed(header::HEADER_SIZE, 272), short);
     let odd =
         "the file is damaged, its arena_size of 3841 is no multiple of 8: restore it from a copy";
     assert_eq!(changed(header::ARENA_SIZE, 3_841), odd);
@@ -96,7 +107,9 @@ fn no_appends() {
     let sealed = "the file is sealed, and an append would break the seal";
     assert_eq!(changed(header::COMPATIBLE_FLAGS, 1, 12), sealed);
     let newer = "the file has a feature of a newer systemd that an append would break";
-    assert_eq!(changed(header::COMPATIBLE_FLAGS, 2, 12), newer);
+    assert_eq!(changed(header::COMPATIBLE_FLAGS, 8 + 2, 12), newer);
+    let other = "the file has a flag of headers of 272 bytes, and its header has 256";
+    assert_eq!(changed(header::COMPATIBLE_FLAGS, 2, 12), other);
     let cut_off = "the file is in use, or an append to it was cut off";
     assert_eq!(changed(header::STATE, 1, 13), cut_off);
     assert_eq!(changed(header::STATE, 2, 13), "the file is archived");

@@ -20,7 +20,8 @@ clauses! { CLAUSES:
     LONG = 2, "more than 8,388,608 bytes";
     SIGNATURE_DIFFERS = 3, "signature differs";
     INCOMPATIBLE_BIT = 4, "an incompatible bit other than bit 2";
-    HEADER_SIZE = 5, "header_size not 256";
+    HEADER_SIZE = 5, "header_size none of 256, 264 and 272";
+    HEADER_ABOVE_LENGTH = 5, "the sum above the image length, and so the header alone";
     ARENA_NOT_EIGHTS = 5, "arena_size not a multiple of 8";
     SUM_ABOVE_LENGTH = 5, "the sum above the image length";
     SUM_ABOVE_64_BITS = 5, "the sum above the image length, and 2^64 or more";
@@ -112,9 +113,11 @@ clauses! { CLAUSES:
     NO_FIELD = 11, "a DATA in a committed entry, and no FIELD of its name in its cell";
 }
 
-// Refusals of an append, by rising number.
+// Refusals of an append, in the order of their tests: "25 for an append to 264, straight after 12".
 clauses! { APPEND_CLAUSES:
-    COMPATIBLE_BIT = 12, "any compatible bit set";
+    COMPATIBLE_BIT = 12, "a compatible bit other than bit 1 set";
+    BOOT_BIT_WITHOUT_272 = 12, "compatible bit 1 set, and the header is not 272";
+    HEADER_OF_264 = 25, "an append to 264";
     NOT_OFFLINE = 13, "state not 0";
 
     COUNTER_OBJECTS = 14, "n_objects";
@@ -128,6 +131,9 @@ clauses! { APPEND_CLAUSES:
     HEAD_REALTIME = 14, "head_entry_realtime";
     TAIL_REALTIME = 14, "tail_entry_realtime";
     TAIL_MONOTONIC = 14, "tail_entry_monotonic";
+    TAIL_ARRAY = 14, "tail_entry_array_offset";
+    TAIL_ARRAY_COUNT = 14, "tail_entry_array_n_entries";
+    TAIL_ENTRY = 14, "tail_entry_offset";
     DATA_CELL_TAIL = 14, "a data cell's tail";
     FIELD_CELL_TAIL = 14, "a field cell's tail";
     DATA_OFF_CHAIN = 14, "a DATA off its chain";
@@ -156,3 +162,6 @@ clauses! { APPEND_CLAUSES:
     PASSES_ARENA = 18, "the new objects pass the arena's end";
     LIST_SHORT = 19, "the store list is too short";
 }
+
+/// The numbers of an append's refusals in the order of their tests.
+pub const APPEND_ORDER: [u64; 9] = [12, 25, 13, 14, 15, 16, 17, 18, 19];

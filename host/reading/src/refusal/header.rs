@@ -1,7 +1,7 @@
 //! Refusals 1 to 5.
 use super::clause::*;
 use crate::image::{arena_end, le32, le64};
-use crate::layout::{header, MOST_BYTES, SIGNATURE};
+use crate::layout::{header, HEADER_SIZES, MOST_BYTES, SIGNATURE};
 
 /// 1: "fewer than 256 bytes"
 pub fn one(bytes: &[u8], found: &mut Vec<Clause>) {
@@ -34,21 +34,25 @@ pub fn four(bytes: &[u8], found: &mut Vec<Clause>) {
     }
 }
 
-/// 5: "header_size not 256, arena_size not a multiple of 8, or their sum above the image
-/// length". The sum is the mathematical one.
+/// 5: header_size none of the three sizes, "arena_size not a multiple of 8, or their sum above the
+/// image length". The sum is the mathematical one. Only from here on may an image be read at 256
+/// and up: it may have 256 bytes and call for a header of 272.
 pub fn five(bytes: &[u8], found: &mut Vec<Clause>) {
     let header_size = le64(bytes, header::HEADER_SIZE);
     let arena_size = le64(bytes, header::ARENA_SIZE);
-    if header_size != 256 {
+    let named = HEADER_SIZES.contains(&header_size);
+    if !named {
         found.push(HEADER_SIZE);
     }
     if arena_size % 8 != 0 {
         found.push(ARENA_NOT_EIGHTS);
     }
-    let sum = arena_end(bytes);
-    if sum > bytes.len() as u128 {
+    let (sum, length) = (arena_end(bytes), bytes.len() as u128);
+    if sum > length {
         found.push(if sum >= 1 << 64 {
             SUM_ABOVE_64_BITS
+        } else if named && header_size as u128 > length {
+            HEADER_ABOVE_LENGTH
         } else {
             SUM_ABOVE_LENGTH
         });

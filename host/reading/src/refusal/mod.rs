@@ -10,7 +10,7 @@ mod tables;
 mod walk;
 
 use super::image::Image;
-pub use clause::{Clause, APPEND_CLAUSES, CLAUSES};
+pub use clause::{Clause, APPEND_CLAUSES, APPEND_ORDER, CLAUSES};
 
 /// 0, or the lowest number of the table that applies.
 pub fn refusal(bytes: &[u8]) -> u64 {

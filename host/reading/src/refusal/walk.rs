@@ -1,12 +1,12 @@
 //! Refusal 6.
 use super::clause::*;
-use crate::image::{arena_end, le64, Object};
-use crate::layout::{header, kind, FIRST_OBJECT};
+use crate::image::{arena_end, first_object, le64, Object};
+use crate::layout::{header, kind};
 
-/// 6: "the walk from 256, stopped once past tail_object_offset, misses it (0 included); an
-/// object passes the arena's end; type 0; one of flag bits 0 to 2 set; a size wrong".
+/// 6: the walk from the header's end, "stopped once past tail_object_offset, misses it (0
+/// included); an object passes the arena's end; type 0; one of flag bits 0 to 2 set; a size wrong".
 ///
-/// Every object from 256 up to and including the one at tail_object_offset is judged, and
+/// Every object from the header's end up to and including the one at tail_object_offset is judged, and
 /// nothing after it.
 pub fn six(bytes: &[u8], found: &mut Vec<Clause>) {
     let tail_object_offset = le64(bytes, header::TAIL_OBJECT_OFFSET);
@@ -15,14 +15,14 @@ pub fn six(bytes: &[u8], found: &mut Vec<Clause>) {
         found.push(TAIL_ZERO);
         return;
     }
-    if tail_object_offset < FIRST_OBJECT {
+    if tail_object_offset < first_object(bytes) {
         found.push(TAIL_IN_HEADER);
         return;
     }
     if tail_object_offset as u128 >= arena_end {
         found.push(TAIL_PAST_END);
     }
-    let mut offset = FIRST_OBJECT;
+    let mut offset = first_object(bytes);
     while offset <= tail_object_offset && (offset as u128) < arena_end {
         if offset as u128 + 16 > arena_end {
             found.push(OBJECT_HEADER_PASSES_END);

@@ -1,6 +1,6 @@
 //! Refusal 11: each hash once, xor_hash with a cache of payloads' hashes.
 use super::map::{Open, DATA, ENTRY, FIELD};
-use crate::plain::bytes::{name_length, next, u32_at, u64_at, HEADER_LENGTH};
+use crate::plain::bytes::{first_object, name_length, next, u32_at, u64_at};
 use reading::lookup3::hashlittle2;
 use reading::siphash::siphash24;
 
@@ -21,7 +21,7 @@ impl Open<'_> {
             true => siphash24(id, bytes),
             false => hashlittle2(bytes),
         };
-        let mut at = HEADER_LENGTH;
+        let mut at = first_object(self.image);
         while at <= self.tail {
             if self.image[at] == DATA {
                 let payload = self.hashed(at, 64);
@@ -39,7 +39,7 @@ impl Open<'_> {
 
     fn items_fault(&self, keyed: bool) -> bool {
         let mut cache = [(0usize, 0u64); 16_384];
-        let mut at = HEADER_LENGTH;
+        let mut at = first_object(self.image);
         while at <= self.tail {
             if self.image[at] == ENTRY {
                 let mut xor_hash = 0;

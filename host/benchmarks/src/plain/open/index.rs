@@ -1,7 +1,7 @@
 //! Refusal 11: chains with a filter of hashes and marks, FIELDs' lists with marks, and what
 //! committed entries hold.
 use super::map::{Open, CHAINED, COMMITTED, FIELD, LISTED, SEEN};
-use crate::plain::bytes::{name_length, next, u64_at, HEADER_LENGTH};
+use crate::plain::bytes::{first_object, name_length, next, u64_at};
 
 impl Open<'_> {
     pub fn chains_fault(&mut self, table: usize, body: usize) -> bool {
@@ -44,7 +44,7 @@ impl Open<'_> {
     }
 
     pub fn names_fault(&mut self) -> bool {
-        let mut at = HEADER_LENGTH;
+        let mut at = first_object(self.image);
         while at <= self.tail {
             if self.image[at] == FIELD {
                 let mark = match self.map[at / 8] & CHAINED {
@@ -72,7 +72,7 @@ impl Open<'_> {
 
     pub fn reach_fault(&self) -> bool {
         let reached = CHAINED | LISTED;
-        let mut at = HEADER_LENGTH;
+        let mut at = first_object(self.image);
         while at <= self.tail {
             if self.map[at / 8] & COMMITTED != 0 {
                 for item in self.image[at + 64..at + self.size(at)].chunks_exact(16) {

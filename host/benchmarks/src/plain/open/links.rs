@@ -1,13 +1,13 @@
 //! Refusal 8: links by the map.
 use super::map::{Open, ARRAY, DATA, ENTRY, FIELD};
-use crate::plain::bytes::{next, u64_at, HEADER_LENGTH};
+use crate::plain::bytes::{first_object, next, u64_at};
 
 impl Open<'_> {
     pub fn links_fault(&self) -> bool {
         if !self.lands(self.word(176), ARRAY) {
             return true;
         }
-        let mut at = HEADER_LENGTH;
+        let mut at = first_object(self.image);
         while at <= self.tail {
             if self.object_links_fault(at) {
                 return true;

@@ -1,6 +1,6 @@
 //! Refusals 9 and 10: the committed entries, and the lists by counting.
 use super::map::{Open, COMMITTED, DATA, ENTRY};
-use crate::plain::bytes::{next, u64_at, HEADER_LENGTH};
+use crate::plain::bytes::{first_object, next, u64_at};
 
 impl Open<'_> {
     /// Refusal 9, or the last committed offset; committed entries are marked.
@@ -43,7 +43,7 @@ impl Open<'_> {
 
     pub fn lists_fault(&self, last: u64) -> bool {
         let (mut listed, mut held) = (0, 0);
-        let mut at = HEADER_LENGTH;
+        let mut at = first_object(self.image);
         while at <= self.tail {
             if self.image[at] == DATA {
                 match self.members(at, last) {

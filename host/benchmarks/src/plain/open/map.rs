@@ -1,5 +1,5 @@
 //! The object map, with a byte for each eight bytes of the image.
-use crate::plain::bytes::{next, u64_at, HEADER_LENGTH, LONGEST_IMAGE};
+use crate::plain::bytes::{first_object, next, u64_at, LONGEST_IMAGE};
 
 pub const DATA: u8 = 1;
 pub const FIELD: u8 = 2;
@@ -23,7 +23,7 @@ pub struct Open<'a> {
 impl Open<'_> {
     /// Marks the types of the objects.
     pub fn fill(&mut self) {
-        let mut at = HEADER_LENGTH;
+        let mut at = first_object(self.image);
         while at <= self.tail {
             self.map[at / 8] = self.image[at].min(8);
             at = next(self.image, at);

@@ -4,6 +4,7 @@ mod clause;
 mod combined;
 mod committed;
 mod hashes;
+mod late;
 mod links;
 mod lists;
 mod low;

@@ -1,8 +1,8 @@
 //! Untargeted mutations: bytes and words anywhere, and inputs that are no journal.
 use crate::generator::dice::{between, edge, once_in, pick};
 use crate::random::Random;
-use reading::image::le64;
-use reading::layout::SIGNATURE;
+use reading::image::{arena_end, le64};
+use reading::layout::{header, HEADER_SIZES, SIGNATURE};
 
 /// Puts a word at an edge of what was there, or an offset of some object, at a random place.
 pub fn word(random: &mut Random, offsets: &[u64], image: &mut [u8]) {
@@ -23,7 +23,7 @@ pub fn word(random: &mut Random, offsets: &[u64], image: &mut [u8]) {
 fn place(random: &mut Random, image: &[u8]) -> u64 {
     let words = image.len() / 8;
     if once_in(random, 4) {
-        8 * random.below(words.min(32)) as u64
+        8 * random.below(words.min(34)) as u64
     } else {
         8 * random.below(words) as u64
     }
@@ -35,7 +35,7 @@ pub fn byte(random: &mut Random, image: &mut [u8]) {
         return;
     }
     let at = if once_in(random, 4) {
-        random.below(image.len().min(256))
+        random.below(image.len().min(272))
     } else {
         random.below(image.len())
     };
@@ -57,9 +57,27 @@ pub fn copied(random: &mut Random, image: &mut [u8]) {
     image[to as usize..to as usize + 8].copy_from_slice(&value.to_le_bytes());
 }
 
+/// Puts another of the three sizes into the header; often the arena ends where it did.
+pub fn header_size(random: &mut Random, image: &mut [u8]) {
+    if image.len() < 256 {
+        return;
+    }
+    let (size, end) = (pick(random, &HEADER_SIZES), arena_end(image) as u64);
+    let mut set = |at: u64, value: u64| {
+        image[at as usize..at as usize + 8].copy_from_slice(&value.to_le_bytes());
+    };
+    set(header::HEADER_SIZE, size);
+    if !once_in(random, 3) {
+        set(header::ARENA_SIZE, end.wrapping_sub(size));
+    }
+}
+
 /// An input that is no journal: short, all zero, or anything, with or without the signature.
 pub fn no_journal(random: &mut Random) -> Vec<u8> {
-    let length = pick(random, &[0, 1, 8, 255, 256, 257, 264, 300, 320, 1000]);
+    let length = pick(
+        random,
+        &[0, 1, 8, 255, 256, 257, 264, 271, 272, 300, 320, 1000],
+    );
     let mut image = if once_in(random, 2) {
         vec![0; length]
     } else {
@@ -69,8 +87,9 @@ pub fn no_journal(random: &mut Random) -> Vec<u8> {
         image[0..8].copy_from_slice(&SIGNATURE);
         image[12..16].fill(0);
         if once_in(random, 2) {
-            image[88..96].copy_from_slice(&256u64.to_le_bytes());
-            let arena_size = (length as u64 - 256) / 8 * 8;
+            let header_size = pick(random, &HEADER_SIZES);
+            image[88..96].copy_from_slice(&header_size.to_le_bytes());
+            let arena_size = (length as u64).saturating_sub(header_size) / 8 * 8;
             image[96..104].copy_from_slice(&arena_size.to_le_bytes());
         }
         if once_in(random, 2) {

@@ -9,10 +9,12 @@ use reading::refusal::clause::*;
 pub fn mutate(clause: Clause, random: &mut Random, made: &mut Rendered) -> bool {
     let objects = Image::walked(&made.image).objects;
     let tail = *objects.last().expect("two tables");
+    let header_size = made.draft.header_size;
     match clause {
         TAIL_ZERO => made.set(header::TAIL_OBJECT_OFFSET, 0),
         TAIL_IN_HEADER => {
-            let at = pick(random, &[1, 8, 16, 136, 248, 255]);
+            let (last, near) = (header_size - 8, header_size - 1);
+            let at = pick(random, &[1, 8, 16, 136, 248, 255, last, near]);
             made.set(header::TAIL_OBJECT_OFFSET, at);
         }
         TAIL_IN_OBJECT => {
@@ -31,7 +33,7 @@ pub fn mutate(clause: Clause, random: &mut Random, made: &mut Rendered) -> bool 
             } else {
                 made.arena_end
             };
-            made.set(header::ARENA_SIZE, end - 256);
+            made.set(header::ARENA_SIZE, end - header_size);
             let over = pick(
                 random,
                 &[0, 1, 8, 16, 1 << 40, u64::MAX - end, u64::MAX - end - 7],
@@ -41,7 +43,7 @@ pub fn mutate(clause: Clause, random: &mut Random, made: &mut Rendered) -> bool 
         OBJECT_PASSES_END => passes(random, made, &objects),
         OBJECT_HEADER_PASSES_END => {
             let object = pick(random, &objects);
-            made.set(header::ARENA_SIZE, object.offset + 8 - 256);
+            made.set(header::ARENA_SIZE, object.offset + 8 - header_size);
             if once_in(random, 2) {
                 made.set(header::TAIL_OBJECT_OFFSET, object.offset);
             }
@@ -71,7 +73,7 @@ fn passes(random: &mut Random, made: &mut Rendered, objects: &[Object]) {
     };
     if once_in(random, 2) {
         let end = object.next() as u64 - 8;
-        made.set(header::ARENA_SIZE, end - 256);
+        made.set(header::ARENA_SIZE, end - made.draft.header_size);
     } else {
         let left = made.arena_end - object.offset;
         let size = pick(

@@ -8,7 +8,7 @@ use reading::refusal::clause::*;
 
 pub fn mutate(clause: Clause, random: &mut Random, made: &mut Rendered) -> bool {
     match clause {
-        FEWER_THAN_TWO => made.set(header::TAIL_OBJECT_OFFSET, 256),
+        FEWER_THAN_TWO => made.set(header::TAIL_OBJECT_OFFSET, made.draft.header_size),
         FIRST_TWO => first_two(random, made),
         LATER_DATA_TABLE => return later(random, made, kind::DATA_HASH_TABLE),
         LATER_FIELD_TABLE => return later(random, made, kind::FIELD_HASH_TABLE),

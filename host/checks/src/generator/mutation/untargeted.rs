@@ -52,6 +52,7 @@ fn several(random: &mut Random, offsets: &[u64], mut image: Vec<u8>, times: u64)
             3 if once_in(random, 8) => {
                 image.truncate(between(random, 0, image.len() as u64) as usize)
             }
+            4 if once_in(random, 4) => noise::header_size(random, &mut image),
             _ => noise::word(random, offsets, &mut image),
         }
     }

@@ -1,17 +1,20 @@
-//! Mutations for refusals 12 to 14, which leave the image open.
+//! Mutations for refusals 12 to 14 and 25, which leave the image open.
+use super::late;
 use crate::generator::dice::{between, edge, once_in, pick};
 use crate::generator::draft::{Array, Data, Draft, Entry, Field, Item, Part};
 use crate::generator::render::render;
 use crate::generator::rendered::Rendered;
 use crate::random::Random;
-use reading::layout::{header, table};
+use reading::layout::{header, table, TAIL_ENTRY_BOOT_ID};
 use reading::refusal::clause::*;
 
 /// Whether the mutation for a clause draws the image anew, so that words set before are lost.
 pub fn redraws(clause: Clause) -> bool {
     matches!(
         clause,
-        COUNTER_ENTRIES
+        BOOT_BIT_WITHOUT_272
+            | HEADER_OF_264
+            | COUNTER_ENTRIES
             | DATA_OFF_CHAIN
             | DATA_OFF_LIST
             | FIELD_OFF_CHAIN
@@ -25,9 +28,11 @@ pub fn redraws(clause: Clause) -> bool {
 pub fn mutate(clause: Clause, random: &mut Random, made: &mut Rendered) -> bool {
     let at = match clause {
         COMPATIBLE_BIT => {
-            made.image[8 + random.below(4)] |= 1 << random.below(8);
+            let bit = pick(random, &[0, 2, 3, 4, 7, 8, 9, 15, 16, 17, 24, 25, 31]);
+            made.image[8 + bit / 8] |= 1 << (bit % 8);
             return true;
         }
+        TAIL_ARRAY | TAIL_ARRAY_COUNT | TAIL_ENTRY => return late::mutate(clause, random, made),
         NOT_OFFLINE => {
             made.set_byte(header::STATE, pick(random, &[1, 2, 128, 255]));
             return true;
@@ -104,6 +109,16 @@ fn drawn(clause: Clause, random: &mut Random, draft: &mut Draft) -> bool {
         })
     };
     match clause {
+        BOOT_BIT_WITHOUT_272 => {
+            if draft.header_size == 272 {
+                draft.header_size = pick(random, &[256, 264]);
+            }
+            draft.compatible_flags |= TAIL_ENTRY_BOOT_ID;
+        }
+        HEADER_OF_264 => {
+            draft.header_size = 264;
+            draft.compatible_flags &= !TAIL_ENTRY_BOOT_ID;
+        }
         COUNTER_ENTRIES => {
             // An ENTRY that is not committed: it stands, and n_entries does not count it.
             if data.is_empty() {
