@@ -10,13 +10,15 @@ use borrow.Author.Tests.{eq-eqb}
 use Rattle.format.specs.Tests.{same}
 use Rattle.format.specs.Says.{says-same}
 use Rattle.format.specs.Header.{Image}
-use Rattle.format.specs.Kinds.{Table, dataTable, fieldTable}
-use Rattle.format.specs.File.{File, model}
+use Rattle.format.specs.Kinds.{slotOf, Table, dataTable, fieldTable}
+use Rattle.format.specs.File.{File, model, arraySlot}
+use Rattle.format.proofs.ItemWords.{item-least}
+use Rattle.reading.specs.Chains.{arrays}
 use Rattle.format.proofs.Tests.{both, not-true}
 use Rattle.reading.specs.Names.{nameOf}
 use Rattle.writing.specs.Request.{Request}
 use Rattle.writing.specs.Placing.{Placed, placed, newEntryAt, oldItems}
-use Rattle.writing.specs.Growth.{Taker, takers, Growth, growth, grown, afterEntry, newEnd}
+use Rattle.writing.specs.Growth.{Taker, takers, Spot, leads, spare, spotValue, Growth, growingSpot, growth, grown, afterEntry, newEnd}
 use Rattle.writing.specs.NewObjects.{brings, cellFor, goesTo, firstIn, lastIn, lastNamed}
 use Rattle.writing.specs.Plan.{Update}
 use Rattle.partial_append.specs.Between.{PlannedObject}
@@ -148,7 +150,7 @@ module _ (img : Image) (r : Request) (a : Accepted img r) where
   named-high : (n : List ℕ) → High (F .end) (named n) (λ q. q .at) ps
   named-high n q m e = new-high (accepted-takes img r a) (accepted-placing img r a) q m (both _ _ e .0)
 
-  -- the value of a growth: the ENTRY, or a new array
+  -- the value of a growth: the ENTRY, a word with it as an item, or a new array
   growth-high : (g : Growth) → List·Memᴰ g (grown F (r .fields)) → F .end ≤ g .value
   unfolding grown
   growth-high g m =
@@ -159,13 +161,22 @@ module _ (img : Image) (r : Request) (a : Accepted img r) where
       as-entry : g .value ≡ newEntryAt F (r .fields) → F .end ≤ g .value
       as-entry q = subst (λ (n : ℕ). F .end ≤ n) (sym q) entry-high
 
+      spot-high : (x : Spot) → F .end ≤ spotValue F x (newEntryAt F (r .fields))
+      spot-high (leads w) = entry-high
+      spot-high (spare b i) =
+          omega (arith, item-least (F .compact) i (newEntryAt F (r .fields)) (F .read (arraySlot b (slotOf (F .compact) i))), entry-high)
+
+      as-spot : (x : Spot) → g .value ≡ spotValue F x (newEntryAt F (r .fields)) → F .end ≤ g .value
+      as-spot x q = subst (λ (n : ℕ). F .end ≤ n) (sym q) (spot-high x)
+
       as-new : (g .room ≡ 0 → ⊥) → F .end ≤ g .value
-      as-new h = object-high (arrayObject (newEntryAt F (r .fields)) g) (array-object F (r .stamp) ps (grown F (r .fields)) (newEntryAt F (r .fields)) g m h)
+      as-new h = object-high (arrayObject (F .compact) (newEntryAt F (r .fields)) g) (array-object F (r .stamp) ps (grown F (r .fields)) (newEntryAt F (r .fields)) g m h)
 
       go : (at : ℕ) (t : Taker) → g ≡ growth F (newEntryAt F (r .fields)) at t → Right F t → F .end ≤ g .value
       go at t q (as-first d i z) = as-entry (ap (λ (x : Growth). x .value) (q ∙ growth-first F (newEntryAt F (r .fields)) at d))
       go at t q (as-item w n i) =
-          spare-cases F w n (λ l. as-entry (ap (λ (x : Growth). x .value) (q ∙ growth-spare F (newEntryAt F (r .fields)) at w n l)))
+          spare-cases F w n
+          (λ l. as-spot (growingSpot F w (arrays F w) n) (ap (λ (x : Growth). x .value) (q ∙ growth-spare F (newEntryAt F (r .fields)) at w n l)))
           (λ l. as-new (λ z. omega (arith, ap (λ (x : Growth). x .room) (q ∙ growth-array F (newEntryAt F (r .fields)) at w n l), room-some F (accepted-takes img r a) w, z)))
 
   -- the value of a link

@@ -81,13 +81,13 @@ module _ (img : Image) (r : Request) (a : Accepted img r) where
   read6 g n same l e = points-group g (F .end) n Facts (F .end) boot (drop 1 (factGroup F r)) stores7 same l (λ s m. facts-stay img r a s (List·Memᴰ·tail m)) e
 
   -- (5) and (6), of which (5) may be empty
-  both56 : (g : Group) (n : ℕ) (cs : List Store) → AllLead g (F .end) Counts cs → AllLead Counts (F .end) Counts cs → Leads g (F .end) Facts (F .end) boot
+  both56 : (g : Group) (n : ℕ) (cs : List Store) → ((s : Store) (ss : List Store) → cs ≡ s ∷ ss → Leads g (F .end) Counts (F .end) s) → AllLead Counts (F .end) Counts cs → Leads g (F .end) Facts (F .end) boot
       → eqb (syncOf g) 4 ≡ false → pointsFrom n g (F .end) (cs ++ (factGroup F r ++ stores7)) ≡ n ∷ pointsFrom (n + length (cs ++ (factGroup F r ++ []))) Facts (F .end) stores7
   unfolding pointIf syncOf nextGroup nextFirst storeOf
   both56 g n [] lead stay l e = read6 g n false l e ∙ ap (λ (fs : List Store). n ∷ pointsFrom (n + length fs) Facts (F .end) stores7) (sym (append-nil (factGroup F r)))
   both56 g n (s ∷ ss) lead stay l e =
       let cs = s ∷ ss in
-      points-group g (F .end) n Counts (F .end) s ss (factGroup F r ++ stores7) false (lead s (List·Memᴰ·head refl)) (λ t m. stay t (List·Memᴰ·tail m)) e
+      points-group g (F .end) n Counts (F .end) s ss (factGroup F r ++ stores7) false (lead s ss refl) (λ t m. stay t (List·Memᴰ·tail m)) e
       ∙ ap (λ (l : List ℕ). n ∷ l) (read6 Counts (n + length cs) true (refl, refl) refl ∙ ap (λ (m : ℕ). pointsFrom m Facts (F .end) stores7) (in-turn-length n cs (factGroup F r)))
 
   -- (6) is not empty
@@ -96,7 +96,7 @@ module _ (img : Image) (r : Request) (a : Accepted img r) where
   some56 = simp length-append (omega arith)
 
   -- from (5) on, behind counters or links
-  read5 : (g : Group) (n : ℕ) → AllLead g (F .end) Counts (countGroup F r) → Leads g (F .end) Facts (F .end) boot → eqb (syncOf g) 4 ≡ false
+  read5 : (g : Group) (n : ℕ) → ((s : Store) (ss : List Store) → countGroup F r ≡ s ∷ ss → Leads g (F .end) Counts (F .end) s) → Leads g (F .end) Facts (F .end) boot → eqb (syncOf g) 4 ≡ false
       → pointsFrom n g (F .end) stores5 ≡ n ∷ endsFrom n groups5
   read5 g n lead l e =
       both56 g n (countGroup F r) lead (counts-stay img r a) l e

@@ -2,5 +2,6 @@
 pub mod Examples
 pub mod Foreign
 pub mod LongHeader
+pub mod Compact
 pub mod Streams
 pub mod Syncs

@@ -30,7 +30,7 @@ use Rattle.plan_words.proofs.Brought.{arrays-idle, arrays-next, arrays-in, arra
 use Rattle.plan_words.proofs.Placing.{Placing}
 use Rattle.plan_words.proofs.PlacedLaws.{old-in}
 use Rattle.plan_words.proofs.GrowthLaws.{growth-taker, takers-right, growth-array, room-some}
-use Rattle.plan_words.proofs.GrowthsAgree.{sort, Grows, to-entry, to-array, grows}
+use Rattle.plan_words.proofs.GrowthsAgree.{sort, Grows, to-entry, to-item, to-array, grows}
 use Rattle.plan_words.proofs.UpdatesAgree.{end-sort}
 use Rattle.plan_words.proofs.UpdateLaws.{LinkUpdate, by-growth, by-cell, by-list, link-update}
 use Rattle.next_append.proofs.References.{references-once}
@@ -77,7 +77,8 @@ module _ {F F′ : File} {s : Stamp} {ps : List Placed} {gs : List Growth} {e : 
       go (k .1) (k .0) (k .3) (grows F takes e (k .1) (k .0) (takers-right F (oldItems F ps) (old-in takes pl) (k .0) (k .2)))
     where
       go : (at : ℕ) (t : Taker) → g ≡ growth F e at t → Grows F takes e at t → g .room ≡ 0 → ⊥
-      go at t q (to-entry i j k) z = i (ap (λ (y : Growth). sort (y .word)) (sym q) ∙ w)
+      go at t q (to-entry j k) z = omega (arith, ap (λ (y : Growth). sort (y .word)) q, w, j)
+      go at t q (to-item v n u r l b i p y) z = omega (arith, ap (λ (y : Growth). sort (y .word)) q, w, ap sort y)
       go at t q (to-array v n u r l y k) z =
           let p : g ≡ growth F e at (item v n) = q ∙ ap (growth F e at) u in
           omega (arith, room-some F takes v, ap (λ (y : Growth). y .room) (p ∙ growth-array F e at v n l), z)

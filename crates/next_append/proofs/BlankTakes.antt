@@ -30,7 +30,7 @@ use Rattle.partial_append.proofs.Passing.{Passes, passed}
 use Rattle.next_append.specs.Next.{TakesAppends}
 use Rattle.next_append.specs.Blank.{Blank}
 use Rattle.next_append.proofs.Taking.{state-of-word, takes-appends}
-use Rattle.next_append.proofs.AgreementSays.{CountersRight, counters-clear, late-clear, tails-clear}
+use Rattle.next_append.proofs.AgreementSays.{CountersRight, counters-clear, late-clear, tails-clear, data-tails-clear}
 use Rattle.next_append.proofs.BlankFrame.{two-objects, frame-clear, none-of-kind, none-foreign}
 
 module _ {img : Image} {dataCells fieldCells : ℕ} (b : Blank img dataCells fieldCells) where
@@ -103,7 +103,7 @@ module _ {img : Image} {dataCells fieldCells : ℕ} (b : Blank img dataCells fie
 
   -- 1 to 11
   opens-blank : refusal img ≡ 0
-  opens-blank = refusal-index img (frame-clear b) ∙ passed F (formed img walked-blank) passes-blank
+  opens-blank = refusal-index img (frame-clear b) ∙ passed F (formed img (b .bytes) walked-blank) passes-blank
 
   -- nothing is committed
   none-committed : committed F ≡ []
@@ -176,6 +176,7 @@ module _ {img : Image} {dataCells fieldCells : ℕ} (b : Blank img dataCells fie
         counters = counters-clear F .1 counters-blank;
         facts = facts-blank;
         late = late-blank;
+        dataTails = data-tails-clear F .1 (λ c o m. absurd (no-member DATA no-data o m));
         tails = λ t. tails-clear F t .1 (λ c l. cell-empty t c l .1 ∙ ap lastOr0 (sym (no-chained-cell t c)));
         chains = chains-blank;
         counted = counted-blank;

@@ -5,11 +5,14 @@ pub mod HeaderWords
 pub mod ObjectCounts
 pub mod CellLasts
 pub mod CellTails
+pub mod DataTails
 pub mod SettledAfter
 pub mod AgreementSays
 pub mod CountersAgree
 pub mod FactsAgree
+pub mod TailsGrown
 pub mod LateAgree
+pub mod DataTailsAgree
 pub mod TailsAgree
 pub mod ChainsAgree
 pub mod CountedAgree

@@ -32,11 +32,11 @@ module _ (len : ℕ) (a : Asked) (given : GivenIds a) (g : Granted len a) where
   signed = ap (λ (l : List ℕ). not (same l signature)) (first-part len a given g 8 0 (omega arith))
 
   -- the flags of the new file
-  flags-are : (compatibleFlags (newFile len a) ≡ elim (eqb (a .size) 272) [ true ↦ 2 | false ↦ 0 ]) × (bitAnd (incompatibleFlags (newFile len a)) 0xfffffffb ≡ 0)
+  flags-are : (compatibleFlags (newFile len a) ≡ elim (eqb (a .size) 272) [ true ↦ 2 | false ↦ 0 ]) × (bitAnd (incompatibleFlags (newFile len a)) 0xffffffeb ≡ 0)
   flags-are =
       let f = first-flags len a (a .keyed) refl (g .flag) (eqb (a .size) 272) refl in (
         first-number len a given g 4 8 (omega arith) ∙ f .0,
-        ap (λ (n : ℕ). bitAnd n 0xfffffffb) (first-number len a given g 4 12 (omega arith)) ∙ f .1,
+        ap (λ (n : ℕ). bitAnd n 0xffffffeb) (first-number len a given g 4 12 (omega arith)) ∙ f .1,
       )
 
   -- 4

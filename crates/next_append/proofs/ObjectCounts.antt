@@ -44,14 +44,14 @@ arrays-many (g ∷ gs) = go (g .room) (arrays-many gs)
     go (suc n) e = ap suc e
 
 -- the new arrays among the planned objects
-planned-many : (e : ℕ) (gs : List Growth) → length (ofArrays e gs) ≡ newArrays gs
+planned-many : (c : Bool) (e : ℕ) (gs : List Growth) → length (ofArrays c e gs) ≡ newArrays gs
 unfolding newArrays ofArrays
-planned-many e [] = refl
-planned-many e (g ∷ gs) = go (g .room) refl (planned-many e gs)
+planned-many c e [] = refl
+planned-many c e (g ∷ gs) = go (g .room) refl (planned-many c e gs)
   where
-    go : (n : ℕ) → g .room ≡ n → length (ofArrays e gs) ≡ newArrays gs → length (ofArrays e (g ∷ gs)) ≡ elim n as (λ _. ℕ) [ zero ↦ newArrays gs | suc k ↦ suc (newArrays gs) ]
-    go zero q h = ap length (array-none e g gs q) ∙ h
-    go (suc n) q h = ap length (array-one e g gs n q) ∙ ap suc h
+    go : (n : ℕ) → g .room ≡ n → length (ofArrays c e gs) ≡ newArrays gs → length (ofArrays c e (g ∷ gs)) ≡ elim n as (λ _. ℕ) [ zero ↦ newArrays gs | suc k ↦ suc (newArrays gs) ]
+    go zero q h = ap length (array-none c e g gs q) ∙ h
+    go (suc n) q h = ap length (array-one c e g gs n q) ∙ ap suc h
 
 module _ (F : File) (e : ℕ) where
   -- the new objects of one payload
@@ -95,4 +95,4 @@ module _ (F : File) (e : ℕ) where
       → length (objectsOf F s ps gs e) ≡ newCount dataTable ps + newCount fieldTable ps + 1 + newArrays gs
   unfolding objectsOf
   objects-many s ps gs h =
-      length-append (ofPayloads F e [] ps) _ ∙ omega (arith, payloads-many [] ps h, planned-many e gs)
+      length-append (ofPayloads F e [] ps) _ ∙ omega (arith, payloads-many [] ps h, planned-many (F .compact) e gs)

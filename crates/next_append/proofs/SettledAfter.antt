@@ -10,7 +10,7 @@ use Rattle.format.specs.Stores.{Store}
 use Rattle.writing.specs.Request.{Request}
 use Rattle.writing.specs.Placing.{placed, newEntryAt}
 use Rattle.writing.specs.Growth.{grown}
-use Rattle.partial_append.specs.Between.{PlannedObject, Changing, link, cell-tail, count, fact, late-fact, HeaderChange, of-state, of-boot, of-boot-rest, of-tail, of-objects, of-entries, of-tail-seqnum, of-head-seqnum, of-head-realtime, of-tail-realtime, of-tail-monotonic, of-data, of-fields, of-arrays}
+use Rattle.partial_append.specs.Between.{PlannedObject, Changing, link, cell-tail, count, tail-fields, fact, late-fact, HeaderChange, of-state, of-boot, of-boot-rest, of-tail, of-objects, of-entries, of-tail-seqnum, of-head-seqnum, of-head-realtime, of-tail-realtime, of-tail-monotonic, of-data, of-fields, of-arrays}
 use Rattle.partial_append.specs.Extends.{Stays}
 use Rattle.partial_append.proofs.BetweenWalked.{objects-now}
 use Rattle.partial_append.proofs.BetweenOld.{stays-now}
@@ -26,12 +26,14 @@ use Rattle.next_append.proofs.ObjectCounts.{objects-many}
 use Rattle.next_append.proofs.FileAfter.{after8, after, between8, finished8}
 use Rattle.next_append.proofs.HeaderWords.{objects-counted, data-counted, fields-counted, arrays-counted, tail-facts, head-facts-first, head-facts-later, late-array, late-offset}
 use Rattle.next_append.proofs.CellTails.{tail-now}
+use Rattle.next_append.proofs.DataTails.{tail-stored}
 
 -- a word that an append may change is of a group of stores
 changing-grouped : {F : File} (w : Word) → Changing F w → groupOf w ≡ 0 → ⊥
 changing-grouped w (link v l) g = let k = link-group l in omega arith
 changing-grouped w (cell-tail t c l) g = omega arith
 changing-grouped w (count d m) g = omega arith
+changing-grouped w (tail-fields d m c) g = omega arith
 changing-grouped w (late-fact l k) g = omega arith
 changing-grouped w (fact f h) g = go f h g
   where
@@ -89,4 +91,5 @@ module _ (img : Image) (r : Request) (a : Accepted img r) (late : List Store) (o
         headLater = head-later (headerWord img nEntries) refl;
         lateArray = late-array img r a late of8;
         lateOffset = late-offset img r a late of8;
+        dataTails = tail-stored img r a late of8;
       }

@@ -1,16 +1,17 @@
 -- What an append leaves in the words that no lookup reads and 14 looks at: the header's counters, the facts of the first and the last
--- entry, those that a longer header has, and the tails of cells. F is the file before it and F′ the file after it.
+-- entry, those that a longer header has, the tail fields of DATA, and the tails of cells. F is the file before it and F′ the file after it.
 use mathlib.Core.Path.{_≡_}
 use mathlib.Core.Bool.{true}
-use mathlib.Core.List.{List, [], _∷_}
-use Prim.Native.Nat.{ℕ, _+_, _<_}
+use mathlib.Core.List.{List, [], _∷_, List·Memᴰ}
+use Prim.Native.Nat.{ℕ, suc, _+_, _<_}
 use lib.ListN.{length}
+use Rattle.format.specs.Says.{In}
 use Rattle.format.specs.Header.{tailEntryArray, tailEntryOffset, entryArrayOffset, nObjects, nEntries, tailEntrySeqnum, headEntrySeqnum, headEntryRealtime, tailEntryRealtime, tailEntryMonotonic, nData, nFields, nTags, nEntryArrays}
-use Rattle.format.specs.Kinds.{Table, dataTable, fieldTable}
-use Rattle.format.specs.File.{File, hasLate, header, late, cellTail}
+use Rattle.format.specs.Kinds.{DATA, Table, dataTable, fieldTable}
+use Rattle.format.specs.File.{File, hasLate, header, late, cellTail, entryArray, dataCount, dataTail}
 use Rattle.writing.specs.Request.{Request}
-use Rattle.writing.specs.Placing.{placed, newEntryAt}
-use Rattle.writing.specs.Growth.{grown, newArrays, afterEntry}
+use Rattle.writing.specs.Placing.{placed, newEntryAt, oldItems}
+use Rattle.writing.specs.Growth.{item, growth, grown, newArrays, afterEntry}
 use Rattle.writing.specs.Plan.{newCount, tailArrayAfter}
 use Rattle.partial_append.specs.Growing.{newInCell}
 use Rattle.partial_append.specs.Extends.{Stays}
@@ -34,6 +35,13 @@ newChained F r = newArrays (grown F (r .fields))
 abbrev pub newObjects : File → Request → ℕ
 newObjects F r = newIn dataTable F r + newIn fieldTable F r + 1 + newChained F r
 
+-- the tail fields of an old DATA: of one of the entry that has counted before, as the growth of its list says; of any other as they were
+pub data TailKept (F F′ : File) (r : Request) (d : ℕ) : Type 0 where
+  tail-of : (n end : ℕ) → F .read (dataCount d) ≡ suc n → In d (oldItems F (placed F (r .fields)))
+      → List·Memᴰ (growth F (newEntryAt F (r .fields)) end (item (entryArray d) n)) (grown F (r .fields))
+      → F′ .read (dataTail d) ≡ tailArrayAfter F (growth F (newEntryAt F (r .fields)) end (item (entryArray d) n) .value) (entryArray d) n → TailKept F F′ r d
+  tail-as-was : (In d (oldItems F (placed F (r .fields))) → F .read (dataCount d) ≡ 0) → Stays F F′ (dataTail d) → TailKept F F′ r d
+
 -- F′ is F with the append of a request committed, and with its counters, facts and tails stored
 pub record Settled (F F′ : File) (r : Request) : Type 0 where
   pub finished : Finished F F′ (r .fields) (r .stamp)
@@ -56,3 +64,5 @@ pub record Settled (F F′ : File) (r : Request) : Type 0 where
   pub lateArray : hasLate F tailEntryArray ≡ true
       → F′ .read (late tailEntryArray) ≡ tailArrayAfter F (afterEntry F (r .fields)) (header entryArrayOffset) (F .read (header nEntries))
   pub lateOffset : hasLate F tailEntryOffset ≡ true → F′ .read (late tailEntryOffset) ≡ newEntryAt F (r .fields)
+  -- (5) "The DATA's tail word goes with group 5 where it changes"
+  pub dataTails : F .compact ≡ true → (d : ℕ) → In d (F .of DATA) → TailKept F F′ r d

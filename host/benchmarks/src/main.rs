@@ -1,11 +1,12 @@
 //! Times the archive against plain Rust: `cargo run --offline --release -p benchmarks`.
-//! Sections are `hashes`, `frame`, `open`, `append`, `lookups`, `listing`, `merged` and `hostile`;
+//! Sections are `hashes`, `frame`, `open`, `compact`, `append`, `lookups`, `listing`, `merged` and `hostile`;
 //! with their names only those are run.
 //!
 //! A ratio of 1.0 or more means that the archive is at least as fast as plain Rust.
 mod append;
 mod asked;
 mod builder;
+mod compact;
 mod frame;
 mod hostile;
 mod listing;
@@ -27,10 +28,11 @@ use wrapper::raw;
 
 fn main() {
     let asked: Vec<String> = std::env::args().skip(1).collect();
-    let sections: [(&str, fn()); 8] = [
+    let sections: [(&str, fn()); 9] = [
         ("hashes", hashes),
         ("frame", frame::frame),
         ("open", open::open),
+        ("compact", compact::compact),
         ("append", append::append),
         ("lookups", lookups::lookups),
         ("listing", listing::listing),

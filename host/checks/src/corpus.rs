@@ -1,4 +1,5 @@
 //! The files of journald in `host/data/corpus/`.
+use reading::layout::header;
 use std::path::{Path, PathBuf};
 
 /// Their names, and what opening them answers.
@@ -9,7 +10,7 @@ pub const FILES: [(&str, u64); 7] = [
     ("sealed-bullseye-c0-system", 0),
     ("bookworm-k1-c0-system", 0),
     ("trixie-k1-c0-system", 0),
-    ("trixie-k1-c1-system", 4),
+    ("trixie-k1-c1-system", 0),
 ];
 
 /// Where a file is.
@@ -20,6 +21,13 @@ pub fn path(name: &str) -> PathBuf {
 /// The image in a file.
 pub fn image(name: &str) -> Vec<u8> {
     read(&path(name))
+}
+
+/// One of them that says that its fields may be compressed, which is 4.
+pub fn compressed() -> Vec<u8> {
+    let mut image = image("trixie-k1-c1-system");
+    image[header::INCOMPATIBLE_FLAGS as usize] |= 1 << 3;
+    image
 }
 
 /// What the listing program must print for a file that opens.

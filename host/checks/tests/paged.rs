@@ -2,10 +2,13 @@
 //! stores.
 use checks::corpus;
 use checks::generator::any::any;
+use checks::generator::draft::{Array, Data, Draft, Entry, Field, Item, Part};
 use checks::generator::pairs::pair;
+use checks::generator::render::render;
 use checks::random::Random;
-use wrapper::{carry_out, entries, new, plan, stores, stream};
-use wrapper::{Entries, Fields, Planned, Refusal, Request, Stream};
+use reading::layout::Layout;
+use wrapper::{carry_out, entries, new, page_entries, plan, stores, stream};
+use wrapper::{Entries, Fields, Page, Planned, Refusal, Request, Stream};
 
 /// Pages that hold nothing, a record or some, and all.
 const PAGES: [usize; 6] = [0, 1, 150, 400, 3_000, 1 << 16];
@@ -13,7 +16,7 @@ const PAGES: [usize; 6] = [0, 1, 150, 400, 3_000, 1 << 16];
 #[test]
 fn all_entries() {
     let mut many = 0;
-    for seed in 0..60 {
+    for seed in 0..120 {
         let image = any(&mut Random::new(seed + 90_000));
         let all = wrapper::all_entries(&image);
         match entries(&image) {
@@ -59,11 +62,89 @@ fn all_of_a_stream() {
         }
     }
     assert!(many > 100);
-    let [good, bad] = ["bullseye-k0-c0-system", "trixie-k1-c1-system"].map(corpus::image);
+    let (good, bad) = (corpus::image("bullseye-k0-c0-system"), corpus::compressed());
     for (first, second) in [(&good, &bad), (&bad, &good)] {
         let refused = stream(first, second).expect_err("one is refused");
         assert_eq!(wrapper::all_merged(first, second), Err(refused));
     }
+}
+
+/// In a compact file a record may be longer than its ENTRY: here all of them are three times as long as
+/// the image, and four times are always enough.
+#[test]
+fn records_longer_than_the_image() {
+    let image = many_items(300, 64);
+    let all = wrapper::all_entries(&image).expect("it opens");
+    assert_eq!(all.len(), 300);
+    assert!(all.iter().all(|entry| entry.payloads.len() == 64));
+    let records = 300 * (56 + 16 * 64);
+    assert!(records > 3 * image.len() && records < 4 * image.len());
+    let page = |length: usize| page_entries(&image, 0, &mut vec![0; length]).expect("it opens");
+    assert_eq!(
+        page(records),
+        Page {
+            count: 300,
+            next: 0
+        }
+    );
+    assert_eq!(page(image.len()).next, 1_080);
+    assert!(entries(&image).expect("it opens").eq(all.clone()));
+    assert_eq!(wrapper::all_matches(&image, b"A=7"), Ok(all.clone()));
+    assert_eq!(
+        wrapper::all_values(&image, b"A").map(|all| all.len()),
+        Ok(64)
+    );
+    // Equal entries are shown once.
+    let merged = wrapper::all_merged(&image, &image).expect("both open");
+    assert!(merged.into_iter().map(|(_, entry)| entry).eq(all));
+}
+
+/// A compact file of so many entries, each of which holds all of so many payloads. The DATA have one
+/// list, which opening lets them share.
+fn many_items(entries: usize, items: usize) -> Vec<u8> {
+    let first = items + 3;
+    let mut parts: Vec<Part> = (0..items)
+        .map(|n| {
+            Part::Data(Data {
+                payload: format!("A={n}").into_bytes(),
+                chained: Some(0),
+                listed: true,
+                entry_offset: Item::Entry(first),
+                entry_array: Some(items + 2),
+                n_entries: entries as u64,
+            })
+        })
+        .collect();
+    parts.push(Part::Field(Field {
+        name: b"A".to_vec(),
+        chained: Some(0),
+        heads: true,
+    }));
+    for skipped in [0, 1] {
+        parts.push(Part::Array(Array {
+            next: None,
+            items: (first + skipped..first + entries)
+                .map(Item::Entry)
+                .collect(),
+        }));
+    }
+    for n in 1..=entries as u64 {
+        parts.push(Part::Entry(Entry {
+            seqnum: n,
+            realtime: n,
+            monotonic: n,
+            boot_id: [5; 16],
+            items: (0..items).collect(),
+        }));
+    }
+    let draft = Draft {
+        layout: Layout::Compact,
+        data_cells: 64,
+        committed: (first..first + entries).collect(),
+        entry_array: Some(items + 1),
+        ..Draft::of(parts)
+    };
+    render(&draft, &mut Random::new(1)).image
 }
 
 /// An append of so many fields of so many bytes to a new file.

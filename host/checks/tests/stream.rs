@@ -87,21 +87,22 @@ fn answers() {
         same_stream(&any(random), &second);
     }
     assert!(entries > 100);
-    let [one, other, refused] = [
+    let [one, other, compact] = [
         "bullseye-k0-c0-system",
         "bullseye-k1-c0-online",
         "trixie-k1-c1-system",
     ]
     .map(corpus::image);
     assert_eq!(same_stream(&one, &other), 40);
-    assert_eq!(same_stream(&other, &refused), 0);
+    assert_eq!(same_stream(&other, &compact), 40);
+    assert_eq!(same_stream(&other, &corpus::compressed()), 0);
     same_step(&one, &other, [u64::MAX, 36]);
 }
 
 /// The words have the file and then those of its refusal.
 #[test]
 fn refused() {
-    let [good, bad] = ["bullseye-k0-c0-system", "trixie-k1-c1-system"].map(corpus::image);
+    let (good, bad) = (corpus::image("bullseye-k0-c0-system"), corpus::compressed());
     let refusal = Refusal::new(4).expect("not 0");
     for (first, second, file, start) in [
         (&bad, &good, Which::First, "file 1: "),

@@ -31,16 +31,20 @@ fn word(image: &[u8], at: u64) -> u64 {
     u64::from_le_bytes(bytes.try_into().expect("8 bytes"))
 }
 
-/// How long the header is, and what its boot id means. Nothing says that the id is right.
+/// How long the header is, whether the file is compact, and what its boot id means. Nothing says that the id is right.
 fn header(image: &[u8]) -> Result<String, Refusal> {
     let boot = match wrapper::boot_meaning(image)? {
         BootMeaning::OfTailEntry => "it says that its boot id is that of the last entry",
         BootMeaning::OfLastWriter => "its boot id need not be that of the last entry",
     };
-    Ok(format!(
-        "header: {} bytes; {boot}",
-        word(image, HEADER_SIZE)
-    ))
+    let compact = if is_compact(image) { ", compact" } else { "" };
+    let size = word(image, HEADER_SIZE);
+    Ok(format!("header: {size} bytes{compact}; {boot}"))
+}
+
+/// Incompatible bit 4, of a file that opens.
+fn is_compact(image: &[u8]) -> bool {
+    image[12] & 16 != 0
 }
 
 /// What keeps any entry from being appended, if something does: the library is asked for the stores
@@ -59,7 +63,11 @@ fn hindrance(image: &[u8], last: Option<&Entry>, room: &Room) -> Option<String> 
             Some("its last entry has the greatest sequence number: make a new file".to_string())
         }
         // Another entry might do with less.
-        Planned::Refused(refusal) if refusal.number() == 18 && room.left >= SMALLEST_ENTRY => None,
+        Planned::Refused(refusal)
+            if refusal.number() == 18 && room.left >= smallest_entry(image) =>
+        {
+            None
+        }
         Planned::Refused(refusal) => Some(refusal.to_string()),
         Planned::TooShort { .. } | Planned::Stores { .. } => None,
     }
@@ -74,8 +82,14 @@ fn of_another_machine(image: &[u8]) -> String {
     }
 }
 
-/// An ENTRY with one item.
-const SMALLEST_ENTRY: u64 = 80;
+/// An ENTRY with one item, and its padding.
+fn smallest_entry(image: &[u8]) -> u64 {
+    match is_compact(image) {
+        false => 80,
+        true => 72,
+    }
+}
+
 /// Where the header has its own size.
 const HEADER_SIZE: u64 = 88;
 

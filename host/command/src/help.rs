@@ -140,8 +140,9 @@ A line can be given back: find FILE --field \"NAME=$line\" (read it by read -r).
         "\
 check FILE: whether the file can be read, and else why not, with status 3; then
 whether it takes appends, and else why not; how much room is left in it; how
-long its header is, and whether the boot id there is that of the last entry; and
-where it has foreign objects, how many and of which types, up to 100 of them
+long its header is, whether the file is compact, and whether the boot id there
+is that of the last entry; and where it has foreign objects, how many and of
+which types, up to 100 of them
 ",
     ),
     (
@@ -161,7 +162,7 @@ Each is looked for from the start of the file: thousands of them take long.
     (
         "new",
         "\
-new FILE: makes a file, and never overwrites one
+new FILE: makes a file, and never overwrites one; none that is compact
 
   --size 64K             its length, in bytes or with K or M; 8M if not given
   --data-cells N, --field-cells N

@@ -39,18 +39,16 @@ impl Header {
         u64::from_le_bytes(self.bytes[at..at + 8].try_into().expect("8 bytes"))
     }
 
-    /// 4: incompatible bits other than bit 2.
+    /// 4: incompatible bits other than bit 2 and bit 4.
     fn form(&self) -> Option<String> {
-        let newer = "the file was written by a newer systemd, in";
-        let flags = self.flags(12) & !4;
+        let flags = self.flags(12) & !(4 | 16);
         match flags {
             0 => None,
-            32.. => Some(format!(
-                "{newer} a form that is not known here: use journalctl for it"
-            )),
-            16.. => Some(format!(
-                "{newer} its compact form, which is not read here: use journalctl for it"
-            )),
+            32.. => Some(
+                "the file was written by a newer systemd, in a form that is not known here: use \
+                 journalctl for it"
+                    .to_string(),
+            ),
             _ => {
                 let names = [(1, "xz"), (2, "lz4"), (8, "zstd")];
                 let names = names.iter().filter(|(bit, _)| flags & bit != 0);

@@ -3,7 +3,7 @@ use std::collections::BTreeSet;
 
 use super::image::{le64, Image};
 use super::index::{cell_of, Index};
-use super::layout::{array, data, entry, field, kind, table};
+use super::layout::{array, data, entry, field, kind, table, Layout};
 use super::lookup3::hashlittle2;
 use super::request::Request;
 use super::room::{Places, Slot};
@@ -23,10 +23,22 @@ impl After<'_> {
     }
 
     fn set(&mut self, at: u64, value: u64) {
+        self.put(at, &value.to_le_bytes());
+    }
+
+    /// An item of an ENTRY or an ENTRY_ARRAY. "A store still covers eight bytes and keeps a neighbouring
+    /// item or padding": in a compact file only half of the word is another one.
+    fn set_item(&mut self, at: u64, offset: u64) {
+        let count = self.image.layout.array_item() as usize;
+        self.put(at, &offset.to_le_bytes()[..count]);
+    }
+
+    /// Bytes of one word.
+    fn put(&mut self, at: u64, bytes: &[u8]) {
         if at < self.start {
-            self.old.insert(at);
+            self.old.insert(at / 8 * 8);
         }
-        self.bytes[at as usize..at as usize + 8].copy_from_slice(&value.to_le_bytes());
+        self.bytes[at as usize..at as usize + bytes.len()].copy_from_slice(bytes);
     }
 
     /// Type and size of a new object.
@@ -49,14 +61,15 @@ impl After<'_> {
     /// The entry goes into a list.
     fn list(&mut self, slot: Slot, entry: u64) {
         match slot {
-            Slot::Spare(at) => self.set(at, entry),
+            Slot::Spare(at) => self.set_item(at, entry),
             Slot::Array {
                 offset,
                 items,
                 link,
             } => {
-                self.object(offset, kind::ENTRY_ARRAY, 24 + 8 * items);
-                self.set(offset + array::ITEMS, entry);
+                let size = self.image.layout.array_size(items);
+                self.object(offset, kind::ENTRY_ARRAY, size);
+                self.set_item(offset + array::ITEMS, entry);
                 self.set(link, offset);
             }
             Slot::Inline => unreachable!("not in an array"),
@@ -72,7 +85,7 @@ pub fn draw<'a>(image: &'a Image<'a>, request: &Request, places: &Places) -> Aft
         start: places.start,
         old: BTreeSet::new(),
     };
-    // "Unused bytes are 0."
+    // "Unused bytes are 0.": a new DATA's tail fields too.
     after.bytes[places.start as usize..places.end as usize].fill(0);
     let index = Index::of(image);
     let cell = |table: u8, chains: &[Vec<_>], bytes: &[u8]| {
@@ -82,12 +95,13 @@ pub fn draw<'a>(image: &'a Image<'a>, request: &Request, places: &Places) -> Aft
     };
     for one in places.payloads.iter().filter(|one| one.is_new) {
         let at = one.data;
-        after.object(at, kind::DATA, 64 + one.payload.len() as u64);
+        let size = image.layout.data_size(one.payload.len());
+        after.object(at, kind::DATA, size);
         after.set(at + data::HASH, image.hash(one.payload));
         // "New DATA hold the entry as their first (so does an old one of count 0)"
         after.set(at + data::ENTRY_OFFSET, places.entry);
         after.set(at + data::N_ENTRIES, 1);
-        let start = (at + data::PAYLOAD) as usize;
+        let start = (at + image.layout.payload()) as usize;
         after.bytes[start..start + one.payload.len()].copy_from_slice(one.payload);
         after.chain(at, cell(kind::DATA_HASH_TABLE, &index.data, one.payload));
         if one.field_is_new {
@@ -125,7 +139,8 @@ fn draw_entry(after: &mut After, request: &Request, places: &Places) {
         .map(|one| (one.data, after.image.hash(one.payload)))
         .collect();
     items.sort();
-    after.object(at, kind::ENTRY, 64 + 16 * items.len() as u64);
+    let layout = after.image.layout;
+    after.object(at, kind::ENTRY, layout.entry_size(items.len()));
     after.set(at + entry::SEQNUM, request.seqnum);
     after.set(at + entry::REALTIME, request.realtime);
     after.set(at + entry::MONOTONIC, request.monotonic);
@@ -137,7 +152,10 @@ fn draw_entry(after: &mut After, request: &Request, places: &Places) {
         .fold(0, |xor, one| xor ^ hashlittle2(one.payload));
     after.set(at + entry::XOR_HASH, xor_hash);
     for (i, (offset, hash)) in items.into_iter().enumerate() {
-        after.set(at + entry::ITEMS + 16 * i as u64, offset);
-        after.set(at + entry::ITEMS + 16 * i as u64 + 8, hash);
+        let at = at + entry::ITEMS + layout.entry_item() * i as u64;
+        after.set_item(at, offset);
+        if layout == Layout::Regular {
+            after.set(at + 8, hash);
+        }
     }
 }

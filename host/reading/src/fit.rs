@@ -7,7 +7,7 @@ use super::index::{cell_of, field_list, on_chain, Index};
 use super::layout::{array, data, entry, header, kind, TAIL_ENTRY_BOOT_ID};
 use super::refusal::clause::*;
 use super::request::Request;
-use super::tail::late_fields;
+use super::tail::{data_tails, late_fields};
 
 /// 12: any compatible bit set, but "no longer for bit 1 with 272"
 pub fn twelve(image: &Image, found: &mut Vec<Clause>) {
@@ -40,6 +40,7 @@ pub fn fourteen(image: &Image, found: &mut Vec<Clause>) {
     counters(image, found);
     facts(image, found);
     late_fields(image, found);
+    data_tails(image, found);
     cell_tails(
         image,
         kind::DATA_HASH_TABLE,

@@ -3,7 +3,7 @@
 //! "Numbers are unsigned and little-endian, 64 bits unless said."
 use std::collections::BTreeMap;
 
-use super::layout::{array, data, entry, field, header, kind, table, KEYED_HASH};
+use super::layout::{array, entry, field, header, kind, table, Layout, KEYED_HASH};
 use super::{lookup3::hashlittle2, siphash::siphash24};
 
 /// The 64-bit number at a place.
@@ -28,6 +28,11 @@ pub fn id(bytes: &[u8], at: u64) -> [u8; 16] {
     let mut value = [0u8; 16];
     value.copy_from_slice(&bytes[at..at + 16]);
     value
+}
+
+/// The layout of an image's objects, which only means something where 4 lets the flags pass.
+pub fn layout(bytes: &[u8]) -> Layout {
+    Layout::of_flags(le32(bytes, header::INCOMPATIBLE_FLAGS))
 }
 
 /// "objects start at the header's end": where the first one stands, which only means something
@@ -72,6 +77,7 @@ impl Object {
 /// including the one at tail_object_offset.
 pub struct Image<'a> {
     pub bytes: &'a [u8],
+    pub layout: Layout,
     pub objects: Vec<Object>,
     by_offset: BTreeMap<u64, Object>,
 }
@@ -91,6 +97,7 @@ impl<'a> Image<'a> {
         }
         Image {
             bytes,
+            layout: layout(bytes),
             objects,
             by_offset,
         }
@@ -98,6 +105,11 @@ impl<'a> Image<'a> {
 
     pub fn word(&self, at: u64) -> u64 {
         le64(self.bytes, at)
+    }
+
+    /// The offset in an item of an ENTRY or an ENTRY_ARRAY at a place.
+    pub fn item(&self, at: u64) -> u64 {
+        little_endian(self.bytes, at, self.layout.array_item() as usize)
     }
 
     pub fn header_size(&self) -> u64 {
@@ -126,44 +138,40 @@ impl<'a> Image<'a> {
             .collect()
     }
 
-    /// A DATA's payload (from 64) or a FIELD's name (from 40), without padding.
+    /// A DATA's payload (from 64, or 72 in a compact file) or a FIELD's name (from 40), without padding.
     pub fn payload(&self, object: &Object) -> &'a [u8] {
         let start = if object.kind == kind::DATA {
-            data::PAYLOAD
+            self.layout.payload()
         } else {
             field::NAME
         };
         &self.bytes[(object.offset + start) as usize..(object.offset + object.size) as usize]
     }
 
-    /// An ENTRY's items (DATA offset, hash).
-    pub fn entry_items(&self, object: &Object) -> Vec<(u64, u64)> {
-        self.pairs(object, entry::ITEMS)
+    /// An ENTRY's items: DATA offset, and the hash where an item has one.
+    pub fn entry_items(&self, object: &Object) -> Vec<(u64, Option<u64>)> {
+        let hash = |at: u64| match self.layout {
+            Layout::Regular => Some(self.word(at + 8)),
+            Layout::Compact => None,
+        };
+        places(object, entry::ITEMS, self.layout.entry_item())
+            .map(|at| (self.item(at), hash(at)))
+            .collect()
     }
 
     /// A table's cells (head, tail).
     pub fn cells(&self, object: &Object) -> Vec<(u64, u64)> {
-        self.pairs(object, table::CELLS)
-    }
-
-    fn pairs(&self, object: &Object, start: u64) -> Vec<(u64, u64)> {
-        let n = (object.size - start) / 16;
-        (0..n)
-            .map(|i| object.offset + start + 16 * i)
+        places(object, table::CELLS, 16)
             .map(|at| (self.word(at), self.word(at + 8)))
             .collect()
     }
 
-    /// The items of the chain of ENTRY_ARRAYs that starts at an offset, each with the place
-    /// of its word; empty for offset 0. The links have passed refusal 8.
+    /// The items of the chain of ENTRY_ARRAYs that starts at an offset, each with its place; empty for offset 0. The links have passed refusal 8.
     pub fn chain_items(&self, first: u64) -> Vec<(u64, u64)> {
         let mut items = Vec::new();
         for object in self.arrays(first) {
-            let n = (object.size - array::ITEMS) / 8;
-            for i in 0..n {
-                let at = object.offset + array::ITEMS + 8 * i;
-                items.push((at, self.word(at)));
-            }
+            let all = places(&object, array::ITEMS, self.layout.array_item());
+            items.extend(all.map(|at| (at, self.item(at))));
         }
         items
     }
@@ -179,6 +187,11 @@ impl<'a> Image<'a> {
         arrays
     }
 
+    /// The number of an ENTRY_ARRAY's items.
+    pub fn room(&self, object: &Object) -> u64 {
+        (object.size - array::ITEMS) / self.layout.array_item()
+    }
+
     /// "Hash of a payload or name: SipHash-2-4 keyed by file_id if incompatible bit 2 is set,
     /// else hashlittle2 with its first word high."
     pub fn hash(&self, bytes: &[u8]) -> u64 {
@@ -188,6 +201,12 @@ impl<'a> Image<'a> {
             hashlittle2(bytes)
         }
     }
+}
+
+/// The places of an object's parts of so many bytes, from a place in it on. Padding is no part.
+fn places(object: &Object, start: u64, part: u64) -> impl Iterator<Item = u64> {
+    let first = object.offset + start;
+    (0..(object.size - start) / part).map(move |i| first + part * i)
 }
 
 /// The name of a payload: "the name ends at the first `=`". None without `=`.

@@ -8,6 +8,8 @@ pub const HEADER_SIZES: [u64; 3] = [256, 264, 272];
 pub const MOST_BYTES: u64 = 8_388_608;
 /// "bit 2" of the incompatible ones, the keyed hash.
 pub const KEYED_HASH: u32 = 1 << 2;
+/// "incompatible bit 4", compact files.
+pub const COMPACT: u32 = 1 << 4;
 /// "bit 1" of the compatible ones: the boot id at 56 is the tail entry's.
 pub const TAIL_ENTRY_BOOT_ID: u32 = 1 << 1;
 
@@ -63,7 +65,8 @@ pub mod kind {
 }
 
 /// "1 DATA: 16 hash, 24 next_hash, 32 next_field, 40 entry_offset, 48 entry_array,
-/// 56 n_entries, 64 payload"
+/// 56 n_entries, 64 payload"; in a compact file "two 32-bit tail fields at 64", and the payload after
+/// them.
 pub mod data {
     pub const HASH: u64 = 16;
     pub const NEXT_HASH_OFFSET: u64 = 24;
@@ -71,7 +74,10 @@ pub mod data {
     pub const ENTRY_OFFSET: u64 = 40;
     pub const ENTRY_ARRAY_OFFSET: u64 = 48;
     pub const N_ENTRIES: u64 = 56;
-    pub const PAYLOAD: u64 = 64;
+    /// 32 bits, in a compact file.
+    pub const TAIL_ENTRY_ARRAY_OFFSET: u64 = 64;
+    /// 32 bits, in a compact file.
+    pub const TAIL_ENTRY_ARRAY_N_ENTRIES: u64 = 68;
 }
 
 /// "2 FIELD: 16 hash, 24 next_hash, 32 head_data, 40 name."
@@ -83,7 +89,7 @@ pub mod field {
 }
 
 /// "3 ENTRY: 16 seqnum, 24 realtime, 32 monotonic, 40 boot id, 56 xor_hash, 64 items of 16
-/// (DATA offset, hash)."
+/// (DATA offset, hash)." In a compact file items of 4, "a 32-bit offset with no hash".
 pub mod entry {
     pub const SEQNUM: u64 = 16;
     pub const REALTIME: u64 = 24;
@@ -98,8 +104,63 @@ pub mod table {
     pub const CELLS: u64 = 16;
 }
 
-/// "6 ENTRY_ARRAY: 16 next, 24 items of 8."
+/// "6 ENTRY_ARRAY: 16 next, 24 items of 8." In a compact file items of 4, "32-bit offsets".
 pub mod array {
     pub const NEXT_ENTRY_ARRAY_OFFSET: u64 = 16;
     pub const ITEMS: u64 = 24;
+}
+
+/// What differs between regular files and compact ones.
+#[derive(Clone, Copy, Debug, PartialEq, Eq, PartialOrd, Ord)]
+pub enum Layout {
+    Regular,
+    Compact,
+}
+
+impl Layout {
+    pub const BOTH: [Layout; 2] = [Layout::Regular, Layout::Compact];
+
+    /// "Newer machines set incompatible bit 4"
+    pub fn of_flags(incompatible_flags: u32) -> Layout {
+        match incompatible_flags & COMPACT {
+            0 => Layout::Regular,
+            _ => Layout::Compact,
+        }
+    }
+
+    /// Where a DATA's payload starts.
+    pub fn payload(self) -> u64 {
+        match self {
+            Layout::Regular => 64,
+            Layout::Compact => 72,
+        }
+    }
+
+    /// The bytes of an ENTRY's item.
+    pub fn entry_item(self) -> u64 {
+        match self {
+            Layout::Regular => 16,
+            Layout::Compact => 4,
+        }
+    }
+
+    /// The bytes of an ENTRY_ARRAY's item, and of the DATA offset in an ENTRY's item.
+    pub fn array_item(self) -> u64 {
+        match self {
+            Layout::Regular => 8,
+            Layout::Compact => 4,
+        }
+    }
+
+    pub fn data_size(self, payload: usize) -> u64 {
+        self.payload() + payload as u64
+    }
+
+    pub fn entry_size(self, items: usize) -> u64 {
+        entry::ITEMS + self.entry_item() * items as u64
+    }
+
+    pub fn array_size(self, items: u64) -> u64 {
+        array::ITEMS + self.array_item() * items
+    }
 }

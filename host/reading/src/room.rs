@@ -18,7 +18,7 @@ pub struct Placed<'a> {
 /// Where a list of entries takes the new one.
 #[derive(Clone, Copy, PartialEq, Eq, Debug)]
 pub enum Slot {
-    /// A word in an array's spare item.
+    /// An array's spare item.
     Spare(u64),
     /// A new array of so many items, linked from the word.
     Array { offset: u64, items: u64, link: u64 },
@@ -68,7 +68,7 @@ pub fn places<'a>(image: &Image, payloads: &[&'a [u8]]) -> Places<'a> {
         let name = name_of(payload).expect("refusal 16 passed");
         let old = on_chain(image, &index.data, payload);
         let data = old.map_or_else(
-            || room.take(64 + payload.len() as u64),
+            || room.take(image.layout.data_size(payload.len())),
             |object| object.offset,
         );
         let made = placed
@@ -89,7 +89,7 @@ pub fn places<'a>(image: &Image, payloads: &[&'a [u8]]) -> Places<'a> {
             field_is_new,
         });
     }
-    let entry = room.take(64 + 16 * payloads.len() as u64);
+    let entry = room.take(image.layout.entry_size(payloads.len()));
     let n_entries = committed(image).len() as u64;
     let global = slot(image, &mut room, header::ENTRY_ARRAY_OFFSET, n_entries);
     let mut old: Vec<u64> = placed
@@ -135,16 +135,13 @@ fn slot(image: &Image, room: &mut Room, first: u64, counted: u64) -> Slot {
     let arrays: Vec<Object> = image.arrays(offset);
     let (items, link) = match arrays.last() {
         None => (4, first),
-        Some(last) => {
-            let before = (last.size - array::ITEMS) / 8;
-            (
-                (2 * before).min(65_536),
-                last.offset + array::NEXT_ENTRY_ARRAY_OFFSET,
-            )
-        }
+        Some(last) => (
+            (2 * image.room(last)).min(65_536),
+            last.offset + array::NEXT_ENTRY_ARRAY_OFFSET,
+        ),
     };
     Slot::Array {
-        offset: room.take(24 + 8 * items),
+        offset: room.take(image.layout.array_size(items)),
         items,
         link,
     }

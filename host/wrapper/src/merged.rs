@@ -6,7 +6,7 @@
 //! from the first file. A stream stands at a place among the committed entries of each file, and
 //! begins at 0 and 0.
 use crate::lookups::Offset;
-use crate::pages::Entry;
+use crate::pages::{Entry, RECORDS};
 use crate::raw;
 use crate::records::Records;
 use crate::refusal::Refusal;
@@ -97,13 +97,12 @@ pub fn page_merged(
     })
 }
 
-/// The whole stream: each entry with its file. One call shows it: a record is as long as its ENTRY,
-/// so that a page as long as both images holds all there are.
+/// The whole stream: each entry with its file. One call shows it, on a page that holds all there are.
 pub fn all_merged<'a>(
     first: &'a [u8],
     second: &'a [u8],
 ) -> Result<Vec<(Which, Entry<'a>)>, Refused> {
-    let mut page = vec![0; first.len() + second.len()];
+    let mut page = vec![0; RECORDS * (first.len() + second.len())];
     let MergedPage { count, .. } = page_merged(first, second, 0, 0, &mut page)?;
     let mut records = Records::new(page);
     let entries = (0..count).map(|_| records.turn_of(first, second));

@@ -78,12 +78,16 @@ pub fn all_values<'a>(image: &'a [u8], name: &[u8]) -> Result<Vec<&'a [u8]>, Ref
     Ok((0..count).map(|_| records.payload(image)).collect())
 }
 
-/// The number of all records there are, and the records: a page as long as the image holds them.
+/// How much longer a page has to be than its images to hold all records there are: an item of a compact
+/// file has 4 bytes in its ENTRY and 16 in the record. A regular file's records are no longer than it.
+pub(crate) const RECORDS: usize = 4;
+
+/// The number of all records there are, and the records.
 fn all(
     image: &[u8],
     call: impl FnOnce(&mut [u8]) -> Result<Page, Refusal>,
 ) -> Result<(u64, Records), Refusal> {
-    let mut page = vec![0; image.len()];
+    let mut page = vec![0; RECORDS * image.len()];
     let Page { count, .. } = call(&mut page)?;
     Ok((count, Records::new(page)))
 }

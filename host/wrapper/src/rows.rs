@@ -19,9 +19,8 @@ pub const ROWS: [(u64, &str, &str); 22] = [
     ),
     (
         4,
-        "the file has a form that is not read here, such as compressed or compact: use journalctl \
-         for it",
-        "an incompatible bit other than bit 2",
+        "the file has a form that is not read here, such as compressed: use journalctl for it",
+        "an incompatible bit other than bits 2 and 4",
     ),
     (
         5,
@@ -37,7 +36,8 @@ pub const ROWS: [(u64, &str, &str); 22] = [
         "the walk from the header's end, stopped once past tail_object_offset, misses it (0 \
          included); an object passes the arena's end; type 0; one of flag bits 0 to 2 set; a size \
          wrong: DATA below 65, FIELD below 41, ENTRY below 80 or not 64 + 16n, table below 32 or \
-         not 16 + 16n, array below 32 or not 24 + 8n, TAG not 64, type 8 and up below 16",
+         not 16 + 16n, array below 32 or not 24 + 8n, TAG not 64, type 8 and up below 16; in a \
+         compact file DATA below 73, ENTRY below 68 or not 64 + 4n, array below 28 or not 24 + 4n",
     ),
     (
         7,
@@ -71,7 +71,7 @@ pub const ROWS: [(u64, &str, &str); 22] = [
         11,
         "the file is damaged, a field does not fit its hash or its place in the index: restore it \
          from a copy",
-        "a hash, item hash or xor_hash wrong; a payload without `=` or with nothing before it; a \
+        "a hash, item hash (a compact file has none) or xor_hash wrong; a payload without `=` or with nothing before it; a \
          chain object in a wrong cell; two equal payloads or names on the chains; a FIELD's list \
          holding another name; a DATA in a committed entry missing from its cell or its FIELD's \
          list, or no FIELD of its name in its cell",
@@ -95,9 +95,11 @@ pub const ROWS: [(u64, &str, &str); 22] = [
          with the objects (head and tail seqnum and realtime 0 when empty; tail_entry_monotonic \
          free when empty; chain depths and boot id never checked); of tail_entry_array_offset, \
          tail_entry_array_n_entries and tail_entry_offset one that the header has is not the array \
-         of the last committed item, the committed items in it, the last entry (0 when empty); a \
-         DATA or FIELD off its chain, a DATA off its FIELD's list or with no FIELD of its name; a \
-         counted item above the last committed; an array referred to twice",
+         of the last committed item, the committed items in it, the last entry (0 when empty); in a \
+         compact file a DATA's tail_entry_array_offset or tail_entry_array_n_entries is not the array \
+         of its last counted item, the counted items in it (0 if none is in an array); a DATA or \
+         FIELD off its chain, a DATA off its FIELD's list or with no FIELD of its name; a counted \
+         item above the last committed; an array referred to twice",
     ),
     (
         15,

@@ -1,6 +1,8 @@
 //! A journal file drawn up before its offsets are known: objects refer to one another by
 //! their number in `parts`, and `order` says how they follow one another in the file.
 
+use reading::layout::Layout;
+
 #[derive(Clone)]
 pub struct Draft {
     pub file_id: [u8; 16],
@@ -10,6 +12,7 @@ pub struct Draft {
     pub compatible_flags: u32,
     /// One of the three; the objects start there.
     pub header_size: u64,
+    pub layout: Layout,
     pub keyed: bool,
     pub state: u8,
     pub data_table_first: bool,
@@ -78,7 +81,7 @@ pub struct Array {
     pub items: Vec<Item>,
 }
 
-/// A word that is to hold an ENTRY's offset.
+/// A word, or in an array of a compact file half of one, that is to hold an ENTRY's offset.
 #[derive(Clone, Copy, PartialEq, Eq, Debug)]
 pub enum Item {
     Entry(usize),
@@ -98,6 +101,7 @@ impl Draft {
             seqnum_id: [4; 16],
             compatible_flags: 0,
             header_size: 256,
+            layout: Layout::Regular,
             keyed: false,
             state: 0,
             data_table_first: true,

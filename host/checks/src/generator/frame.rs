@@ -1,6 +1,7 @@
 //! Images that are a frame and no more: a header, two tables of one cell and other objects, all of
 //! whose bytes but the type and the size are 0. Refusals 1 to 7 do not apply; later ones may.
-use reading::layout::{header, kind, table, SIGNATURE};
+use super::compact::set_layout;
+use reading::layout::{header, kind, table, Layout, SIGNATURE};
 
 /// Objects of these types and sizes after the tables; sizes that their types can have.
 pub fn frame(objects: &[(u8, u64)]) -> Vec<u8> {
@@ -9,9 +10,15 @@ pub fn frame(objects: &[(u8, u64)]) -> Vec<u8> {
 
 /// The same with a header of any of the three sizes.
 pub fn frame_with(header_size: u64, objects: &[(u8, u64)]) -> Vec<u8> {
+    frame_in(Layout::Regular, header_size, objects)
+}
+
+/// And in any layout.
+pub fn frame_in(layout: Layout, header_size: u64, objects: &[(u8, u64)]) -> Vec<u8> {
     let mut image = vec![0; header_size as usize];
     image[..8].copy_from_slice(&SIGNATURE);
     set(&mut image, header::HEADER_SIZE, header_size);
+    set_layout(&mut image, layout);
     let tables = [
         (
             kind::DATA_HASH_TABLE,

@@ -2,6 +2,7 @@
 use super::draft::{Array, Data, Draft, Entry, Field, Item, Part};
 use super::render::render;
 use crate::random::Random;
+use reading::layout::Layout;
 
 /// One DATA, one FIELD and as many entries as the arrays of the header's chain have items. The DATA's
 /// chain has arrays of the same sizes, less the one item for the inline entry. `spare` bytes are
@@ -12,6 +13,17 @@ pub fn full(arrays: &[usize], keyed: bool, spare: u64) -> Vec<u8> {
 
 /// The same with a header of any of the three sizes.
 pub fn full_with(header_size: u64, arrays: &[usize], keyed: bool, spare: u64) -> Vec<u8> {
+    full_in(Layout::Regular, header_size, arrays, keyed, spare)
+}
+
+/// And in any layout.
+pub fn full_in(
+    layout: Layout,
+    header_size: u64,
+    arrays: &[usize],
+    keyed: bool,
+    spare: u64,
+) -> Vec<u8> {
     let count: usize = arrays.iter().sum();
     let first = 2 + 2 * arrays.len();
     let entries = first..first + count;
@@ -55,6 +67,7 @@ pub fn full_with(header_size: u64, arrays: &[usize], keyed: bool, spare: u64) ->
     }
     let draft = Draft {
         header_size,
+        layout,
         keyed,
         data_cells: 3,
         committed: entries.collect(),

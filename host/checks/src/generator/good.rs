@@ -8,7 +8,7 @@ use super::rendered::Rendered;
 use super::strays::{share_arrays, stray_links};
 use super::wish::Wish;
 use crate::random::Random;
-use reading::layout::{HEADER_SIZES, TAIL_ENTRY_BOOT_ID};
+use reading::layout::{Layout, HEADER_SIZES, TAIL_ENTRY_BOOT_ID};
 
 /// A good image.
 pub fn good(random: &mut Random) -> Rendered {
@@ -73,6 +73,7 @@ fn empty(random: &mut Random, wish: Wish) -> Draft {
         seqnum_id: random.array(),
         compatible_flags,
         header_size,
+        layout: pick(random, &Layout::BOTH),
         keyed: once_in(random, 2),
         state: if wish.tidy {
             0

@@ -1,4 +1,5 @@
 //! Images grown from a new file by appends.
+use super::compact::any_layout;
 use super::dice::{between, once_in, pick};
 use super::foreign;
 use super::requests::fitting;
@@ -55,7 +56,7 @@ pub fn new(random: &mut Random) -> (u64, NewFile) {
     (length, new)
 }
 
-/// A new file with up to so many appends carried out, and now and then a foreign object between them.
+/// A new file, made compact or not, with up to so many appends carried out, and now and then a foreign object between them.
 pub fn grown(random: &mut Random, appends: u64) -> Vec<u8> {
     let mut image = loop {
         let (length, new) = new(random);
@@ -64,6 +65,7 @@ pub fn grown(random: &mut Random, appends: u64) -> Vec<u8> {
             break image;
         }
     };
+    any_layout(random, &mut image);
     let mut list = vec![0; 16 * 3000];
     for _ in 0..between(random, 0, appends) {
         if once_in(random, 6) {

@@ -1,5 +1,6 @@
 //! Two files of one machine, written by appends.
 use super::clock::{Ranges, Stamped};
+use super::compact::any_layout;
 use super::dice::{between, pick, some_of};
 use super::pairs::{seqnum_ids, Pair};
 use crate::random::Random;
@@ -68,7 +69,7 @@ fn changed(random: &mut Random, entry: &Logged) -> Logged {
     entry
 }
 
-/// A new file with those of the entries that it takes, one after the other.
+/// A new file, made compact or not, with those of the entries that it takes, one after the other.
 fn file(random: &mut Random, seqnum_id: [u8; 16], entries: &[Logged]) -> Vec<u8> {
     let new = NewFile {
         data_cells: between(random, 1, 5),
@@ -82,6 +83,7 @@ fn file(random: &mut Random, seqnum_id: [u8; 16], entries: &[Logged]) -> Vec<u8>
     };
     let mut image = vec![0; 4_096];
     assert_eq!(new_file(&mut image, &new), 0);
+    any_layout(random, &mut image);
     let mut list = vec![0; 16 * 500];
     for Logged { at, payloads } in entries {
         let request = Request {

@@ -3,6 +3,7 @@ pub mod any;
 pub mod appends;
 pub mod clock;
 pub mod collide;
+pub mod compact;
 pub mod dice;
 pub mod draft;
 mod facts;

@@ -7,6 +7,7 @@ use super::logged::logged;
 use super::render::render;
 use super::wish::Wish;
 use crate::random::Random;
+use reading::layout::Layout;
 use reading::refusal::refusal;
 
 pub type Pair = [Vec<u8>; 2];
@@ -60,7 +61,7 @@ fn stamp(random: &mut Random, draft: &mut Draft, ranges: &Ranges) {
     }
 }
 
-/// A file and its like: the same entries at other offsets and under another key, often under another
+/// A file and its like: the same entries at other offsets, under another key and in any layout, often under another
 /// seqnum id, and with other stamps for one of them where the rules allow it.
 pub fn twins(random: &mut Random) -> Pair {
     let wish = Wish {
@@ -76,6 +77,7 @@ pub fn twins(random: &mut Random) -> Pair {
     let first = render(&draft, random).image;
     draft.seqnum_id = other;
     (draft.keyed, draft.file_id) = (!draft.keyed, random.array());
+    draft.layout = pick(random, &Layout::BOTH);
     draft.add(Part::Tag, 0);
     let second = render(&draft, random).image;
     if let Some(entry) = (!draft.committed.is_empty()).then(|| pick(random, &draft.committed)) {

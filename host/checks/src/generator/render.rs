@@ -2,10 +2,10 @@
 use super::draft::{Draft, Item, Part};
 use super::render_header::{write_free_facts, write_header};
 use super::render_links::{write_chains, write_lists};
-use super::render_tail::{write_free_tail, write_tail};
+use super::render_tail::{write_data_tails, write_free_tails, write_tail};
 use super::rendered::{hash, kind_of, size, Rendered};
 use crate::random::Random;
-use reading::layout::{array, data, entry, field, kind};
+use reading::layout::{array, data, entry, field, kind, Layout};
 use reading::lookup3::hashlittle2;
 
 fn eights(size: u64) -> u64 {
@@ -27,7 +27,7 @@ pub fn render(draft: &Draft, random: &mut Random) -> Rendered {
     for &part in &draft.order {
         tail = end;
         offsets[part] = end;
-        end += eights(size(&draft.parts[part]));
+        end += eights(size(draft.layout, &draft.parts[part]));
     }
     let arena_end = end + draft.spare;
     let mut image = vec![0; (arena_end + draft.trailing) as usize];
@@ -62,9 +62,10 @@ pub fn render(draft: &Draft, random: &mut Random) -> Rendered {
     write_lists(&mut out);
     write_header(&mut out, random, data_size, field_size);
     write_tail(&mut out);
+    write_data_tails(&mut out);
     if draft.free_facts {
         write_free_facts(&mut out, random);
-        write_free_tail(&mut out, random);
+        write_free_tails(&mut out, random);
     }
     out
 }
@@ -88,8 +89,8 @@ fn resolve(out: &Rendered, item: Item, last: u64, end: u64) -> u64 {
 
 fn write_part(out: &mut Rendered, number: usize, last: u64, end: u64) {
     let part = out.draft.parts[number].clone();
-    let at = out.offsets[number];
-    object(out, at, kind_of(&part), size(&part));
+    let (at, layout) = (out.offsets[number], out.draft.layout);
+    object(out, at, kind_of(&part), size(layout, &part));
     match part {
         Part::Data(it) => {
             let payload_hash = hash(&out.draft, &it.payload);
@@ -101,7 +102,7 @@ fn write_part(out: &mut Rendered, number: usize, last: u64, end: u64) {
             let entry_array = it.entry_array.map_or(0, |array| out.offsets[array]);
             out.set(at + data::ENTRY_ARRAY_OFFSET, entry_array);
             out.set(at + data::N_ENTRIES, it.n_entries);
-            let start = (at + data::PAYLOAD) as usize;
+            let start = (at + layout.payload()) as usize;
             out.image[start..start + it.payload.len()].copy_from_slice(&it.payload);
         }
         Part::Field(it) => {
@@ -124,8 +125,11 @@ fn write_part(out: &mut Rendered, number: usize, last: u64, end: u64) {
             for (i, part) in items.into_iter().enumerate() {
                 let payload = out.draft.data(part).payload.clone();
                 let payload_hash = hash(&out.draft, &payload);
-                out.set(at + entry::ITEMS + 16 * i as u64, out.offsets[part]);
-                out.set(at + entry::ITEMS + 16 * i as u64 + 8, payload_hash);
+                let item = at + entry::ITEMS + layout.entry_item() * i as u64;
+                out.set_item(item, out.offsets[part]);
+                if layout == Layout::Regular {
+                    out.set(item + 8, payload_hash);
+                }
                 xor_hash ^= if out.draft.keyed_xor {
                     payload_hash
                 } else {
@@ -139,7 +143,7 @@ fn write_part(out: &mut Rendered, number: usize, last: u64, end: u64) {
             out.set(at + array::NEXT_ENTRY_ARRAY_OFFSET, next);
             for (i, &item) in it.items.iter().enumerate() {
                 let value = resolve(out, item, last, end);
-                out.set(at + array::ITEMS + 8 * i as u64, value);
+                out.set_item(at + array::ITEMS + layout.array_item() * i as u64, value);
             }
         }
         Part::Tag | Part::Foreign { .. } => {}

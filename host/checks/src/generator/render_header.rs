@@ -1,13 +1,16 @@
 //! Writes a draft's header.
 use super::rendered::{kind_of, Rendered};
 use crate::random::Random;
-use reading::layout::{header, kind, table, KEYED_HASH, SIGNATURE};
+use reading::layout::{header, kind, table, Layout, COMPACT, KEYED_HASH, SIGNATURE};
 
 pub fn write_header(out: &mut Rendered, random: &mut Random, data_size: u64, field_size: u64) {
     let draft = out.draft.clone();
     out.image[0..8].copy_from_slice(&SIGNATURE);
     out.image[8..12].copy_from_slice(&draft.compatible_flags.to_le_bytes());
-    let incompatible_flags = if draft.keyed { KEYED_HASH } else { 0 };
+    let mut incompatible_flags = if draft.keyed { KEYED_HASH } else { 0 };
+    if draft.layout == Layout::Compact {
+        incompatible_flags |= COMPACT;
+    }
     out.image[12..16].copy_from_slice(&incompatible_flags.to_le_bytes());
     out.set_byte(header::STATE, draft.state);
     for (at, id) in [

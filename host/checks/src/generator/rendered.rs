@@ -1,7 +1,7 @@
 //! A draft written as an image.
 use super::draft::{Draft, Part};
-use reading::image::le64;
-use reading::layout::kind;
+use reading::image::{le32, le64};
+use reading::layout::{field, kind, Layout};
 use reading::lookup3::hashlittle2;
 use reading::siphash::siphash24;
 
@@ -31,18 +31,34 @@ impl Rendered {
         self.image[at as usize..at as usize + 4].copy_from_slice(&value.to_le_bytes());
     }
 
+    /// The offset in an item of an ENTRY or an array.
+    pub fn item(&self, at: u64) -> u64 {
+        match self.draft.layout {
+            Layout::Regular => self.word(at),
+            Layout::Compact => le32(&self.image, at).into(),
+        }
+    }
+
+    /// Another offset in an item, of which a compact file has the low 32 bits.
+    pub fn set_item(&mut self, at: u64, value: u64) {
+        match self.draft.layout {
+            Layout::Regular => self.set(at, value),
+            Layout::Compact => self.set_half(at, value as u32),
+        }
+    }
+
     pub fn set_byte(&mut self, at: u64, value: u8) {
         self.image[at as usize] = value;
     }
 }
 
 /// The size of a part's object.
-pub fn size(part: &Part) -> u64 {
+pub fn size(layout: Layout, part: &Part) -> u64 {
     match part {
-        Part::Data(data) => 64 + data.payload.len() as u64,
-        Part::Field(field) => 40 + field.name.len() as u64,
-        Part::Entry(entry) => 64 + 16 * entry.items.len() as u64,
-        Part::Array(array) => 24 + 8 * array.items.len() as u64,
+        Part::Data(it) => layout.data_size(it.payload.len()),
+        Part::Field(it) => field::NAME + it.name.len() as u64,
+        Part::Entry(it) => layout.entry_size(it.items.len()),
+        Part::Array(it) => layout.array_size(it.items.len() as u64),
         Part::Tag => 64,
         Part::Foreign { size, .. } => *size,
     }

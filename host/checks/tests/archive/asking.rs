@@ -5,7 +5,7 @@ use checks::against::lookups::{archive, read, read_stamps, shows, Words};
 use checks::against::trial::{hex, lend};
 use checks::generator::questions::Arguments;
 use reading::ask::Question;
-use reading::layout::{data, kind};
+use reading::layout::kind;
 use reading::lookup::{open, Journal};
 use wrapper::raw;
 
@@ -100,7 +100,7 @@ impl Tried {
     /// A payload and a name may be lent from the image itself.
     fn lent_from_itself(&mut self, lent: &[u8], journal: &Journal) {
         for object in journal.image.of_kind(kind::DATA).iter().take(3) {
-            let at = (object.offset + data::PAYLOAD) as usize;
+            let at = (object.offset + journal.image.layout.payload()) as usize;
             let payload = &lent[at..at + journal.image.payload(object).len()];
             let name = payload.split(|&byte| byte == b'=').next().unwrap();
             let holding = Question::Holding(payload.to_vec(), 0);

@@ -1,32 +1,43 @@
 //! The archive's `benchmark_framed` against the independent reading: the lowest of refusals 1 to 7
 //! that applies, or 0.
 use checks::against::trial::{with, Tried};
-use checks::generator::frame::{frame_with, set};
+use checks::generator::frame::{frame_in, set};
 use checks::generator::worked::{made, made_with};
 use checks::generator::{good, grown, mutation};
 use checks::random::Random;
 use measured::framed;
 use reading::image::first_object;
-use reading::layout::{header, kind, HEADER_SIZES, MOST_BYTES};
+use reading::layout::{header, kind, Layout, HEADER_SIZES, MOST_BYTES};
 
 pub fn tried() -> Tried {
     Tried::new(framed, 7)
 }
 
 /// Every type, the smallest of each and one that is not the smallest.
-pub fn every_type(header_size: u64) -> Vec<u8> {
+pub fn every_type(layout: Layout, header_size: u64) -> Vec<u8> {
+    let (data, entry, array) = match layout {
+        Layout::Regular => ([65, 73], [80, 96], [32, 40]),
+        Layout::Compact => ([73, 81], [68, 72], [28, 32]),
+    };
     let objects = [
-        (kind::DATA, 65),
+        (kind::DATA, data[0]),
         (kind::FIELD, 41),
-        (kind::ENTRY, 80),
-        (kind::ENTRY_ARRAY, 32),
+        (kind::ENTRY, entry[0]),
+        (kind::ENTRY_ARRAY, array[0]),
         (kind::TAG, 64),
         (8, 16),
-        (kind::DATA, 73),
-        (kind::ENTRY, 96),
+        (kind::DATA, data[1]),
+        (kind::ENTRY, entry[1]),
+        (kind::ENTRY_ARRAY, array[1]),
         (255, 23),
     ];
-    frame_with(header_size, &objects)
+    frame_in(layout, header_size, &objects)
+}
+
+/// Every layout with every header size.
+pub fn forms() -> impl Iterator<Item = (Layout, u64)> {
+    let both = Layout::BOTH.into_iter();
+    both.flat_map(|layout| HEADER_SIZES.map(|header_size| (layout, header_size)))
 }
 
 #[test]
@@ -57,11 +68,11 @@ fn worked_examples() {
         let image = with(&image, header::DATA_HASH_TABLE_OFFSET, wrong);
         assert_eq!(number(&image), 7);
     }
-    for header_size in HEADER_SIZES {
-        assert_eq!(number(&every_type(header_size)), 0);
+    for (layout, header_size) in forms() {
+        assert_eq!(number(&every_type(layout, header_size)), 0);
         // Walked from another place there is no object, or there are no tables.
         for other in HEADER_SIZES.into_iter().filter(|&it| it != header_size) {
-            let image = every_type(header_size);
+            let image = every_type(layout, header_size);
             let arena_size = image.len() as u64 - other;
             let image = with(&image, header::HEADER_SIZE, other);
             assert!(matches!(
@@ -82,8 +93,8 @@ fn header_sizes() {
         sizes.extend([0u64.wrapping_sub(size), !size, size << 32, size << 56]);
     }
     sizes.extend([1 << 31, 1 << 32, 1 << 63, u64::MAX - 7, u64::MAX]);
-    for header_size in HEADER_SIZES {
-        let image = every_type(header_size);
+    for (layout, header_size) in forms() {
+        let image = every_type(layout, header_size);
         let end = image.len() as u64;
         for &size in &sizes {
             let image = with(&image, header::HEADER_SIZE, size);
@@ -104,8 +115,8 @@ fn header_sizes() {
 #[test]
 fn shorter_than_the_header() {
     let mut tried = tried();
-    for header_size in HEADER_SIZES {
-        let whole = every_type(header_size);
+    for (layout, header_size) in forms() {
+        let whole = every_type(layout, header_size);
         for length in 250..=280 {
             for arena_size in [0, 8, 16, 24, 64, u64::MAX - 271, u64::MAX - 7] {
                 for tail in [0, 256, 264, 272, 304] {

@@ -1,18 +1,23 @@
 //! `benchmark_framed` with every byte, every two words and every length at all that the rules
 //! compare.
-use super::frames::{every_type, tried};
-use checks::against::trial::with;
-use checks::generator::frame::{frame_with, set};
+use super::frames::{every_type, forms, tried};
+use checks::against::trial::{with, Tried};
+use checks::generator::frame::{frame_in, set};
 use checks::generator::worked::{made, made_with};
 use checks::random::Random;
 use reading::image::{le64, Image};
-use reading::layout::{header, kind, HEADER_SIZES};
+use reading::layout::{header, kind, Layout};
 
 /// Each byte of the header and of the objects' heads at each of its 256 values.
 #[test]
 fn every_value_of_every_byte() {
     let mut tried = tried();
-    for image in [made(320, 0), every_type(264), made_with(272, 336, 0)] {
+    for image in [
+        made(320, 0),
+        every_type(Layout::Regular, 264),
+        every_type(Layout::Compact, 264),
+        made_with(272, 336, 0),
+    ] {
         let mut places: Vec<u64> = (0..272).collect();
         for object in Image::walked(&image).objects {
             places.extend(object.offset..object.offset + 16);
@@ -31,7 +36,7 @@ fn every_value_of_every_byte() {
 /// Values at the edges of what the rules compare, around what stands there, and near 2^64.
 fn edges(is: u64) -> Vec<u64> {
     let mut values = vec![
-        0, 1, 7, 8, 15, 16, 24, 31, 32, 40, 41, 64, 65, 72, 80, 255, 256, 257, 264, 272,
+        0, 1, 7, 8, 15, 16, 24, 28, 31, 32, 40, 41, 64, 65, 68, 72, 73, 80, 255, 256, 257, 264, 272,
     ];
     values.extend([280, 288, 304, 312, 320, 328, 336]);
     values.extend([1, 7, 8, 16].map(|far| is.wrapping_add(far)));
@@ -45,15 +50,21 @@ fn edges(is: u64) -> Vec<u64> {
 #[test]
 fn every_two_words() {
     let mut tried = tried();
-    let image = frame_with(272, &[(kind::DATA, 70)]);
+    for layout in Layout::BOTH {
+        every_two_words_of(&mut tried, &frame_in(layout, 272, &[(kind::DATA, 75)]));
+    }
+    tried.print("every two words");
+}
+
+fn every_two_words_of(tried: &mut Tried, image: &[u8]) {
     let mut places = vec![8];
     places.extend((header::HEADER_SIZE..=header::TAIL_OBJECT_OFFSET).step_by(8));
-    for object in Image::walked(&image).objects {
+    for object in Image::walked(image).objects {
         places.extend([object.offset, object.offset + 8]);
     }
     for (i, &one) in places.iter().enumerate() {
-        for first in edges(le64(&image, one)) {
-            let image = with(&image, one, first);
+        for first in edges(le64(image, one)) {
+            let image = with(image, one, first);
             for &other in &places[i + 1..] {
                 for second in edges(le64(&image, other)) {
                     tried.image(&with(&image, other, second));
@@ -61,7 +72,6 @@ fn every_two_words() {
             }
         }
     }
-    tried.print("every two words");
 }
 
 /// The arena that the image's length leaves.
@@ -78,7 +88,7 @@ fn short_and_random_inputs() {
     let heads = [
         vec![0; 256],
         made(320, 0),
-        every_type(264),
+        every_type(Layout::Compact, 264),
         made_with(272, 336, 0),
     ];
     for length in 0..=600 {
@@ -108,8 +118,8 @@ fn short_and_random_inputs() {
 #[test]
 fn every_cut() {
     let mut tried = tried();
-    for header_size in HEADER_SIZES {
-        let whole = every_type(header_size);
+    for (layout, header_size) in forms() {
+        let whole = every_type(layout, header_size);
         let objects = Image::walked(&whole).objects;
         for length in 0..=whole.len() {
             let mut image = whole[..length].to_vec();

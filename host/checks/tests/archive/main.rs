@@ -2,6 +2,7 @@
 mod adding;
 mod asking;
 mod boot;
+mod compact;
 mod drafts;
 mod example;
 mod foreign;

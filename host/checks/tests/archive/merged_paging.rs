@@ -47,7 +47,7 @@ impl Tried {
         }
     }
 
-    /// From every pair of places: no page, one as long as both images, and those whose end is near
+    /// From every pair of places: no page, one four times as long as both images, and those whose end is near
     /// the end of the first record; from 0 and 0 and from the middle near the end of every record.
     pub fn pair(&mut self, first: &[u8], second: &[u8]) {
         let opened = Opened::new(first, second);
@@ -60,7 +60,7 @@ impl Tried {
                     for at_second in places(ends[1]) {
                         let at = [at_first, at_second];
                         let whole = [[0, 0], ends.map(|it| it / 2)].contains(&at);
-                        let mut lengths = vec![0, first.len() + second.len()];
+                        let mut lengths = vec![0, 4 * (first.len() + second.len())];
                         let mut end = 0;
                         for Shown { file, entry, .. } in stream.all(at_first, at_second) {
                             end += record(stream, file, entry).len();

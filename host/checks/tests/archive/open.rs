@@ -1,14 +1,15 @@
 //! The archive's `journal_open` against the independent reading: the lowest of refusals 1 to 11
 //! that applies, or 0.
 use super::example::{drawn, example};
+use super::frames::forms;
 use checks::against::trial::{with, Tried};
 use checks::generator::any::{any, cut, larger};
-use checks::generator::frame::{frame, set};
+use checks::generator::frame::{frame, frame_in, set};
 use checks::generator::worked::one_cell_each;
 use checks::generator::{good, grown, mutation};
 use checks::random::Random;
 use measured::framed;
-use reading::layout::{header, kind, HEADER_SIZES, MOST_BYTES};
+use reading::layout::{header, kind, Layout, MOST_BYTES};
 use reading::new_file::{new_file, NewFile};
 use wrapper::raw;
 
@@ -75,11 +76,13 @@ fn untargeted_mutations() {
 #[test]
 fn short_inputs() {
     let mut tried = tried();
-    let images = HEADER_SIZES.map(|header_size| {
-        let mut draft = example();
-        draft.header_size = header_size;
-        drawn(&draft).image
-    });
+    let images: Vec<Vec<u8>> = forms()
+        .map(|(layout, header_size)| {
+            let mut draft = example();
+            (draft.layout, draft.header_size) = (layout, header_size);
+            drawn(&draft).image
+        })
+        .collect();
     for length in 0..=400 {
         tried.image(&vec![0; length]);
         tried.image(&Random::new(length as u64).bytes(length));
@@ -88,9 +91,11 @@ fn short_inputs() {
         }
     }
     for kind in 1..=9 {
-        for size in [16, 32, 64, 65, 80, 96] {
-            if !matches!(kind, 4 | 5) {
-                tried.image(&frame(&[(kind, size)]));
+        for size in [16, 28, 32, 64, 65, 68, 73, 80, 96] {
+            for layout in Layout::BOTH {
+                if !matches!(kind, 4 | 5) {
+                    tried.image(&frame_in(layout, 256, &[(kind, size)]));
+                }
             }
         }
     }

@@ -83,7 +83,7 @@ fn corpus_files() {
     }
     tried.print("corpus");
     assert!(tried.some > 100 && tried.all > 10);
-    assert_eq!((tried.images[0], tried.images[4]), (6, 1));
+    assert_eq!(tried.images[0], 7);
 }
 
 /// A payload and a name may be lent from the image itself.

@@ -94,13 +94,14 @@ impl Tried {
         }
     }
 
-    /// From every place: no page, one that is as long as the image, and those whose end is near the
-    /// end of a record.
+    /// From every place: no page, one that is four times as long as the image and holds all, and those
+    /// whose end is near the end of a record.
     pub fn lengths(&mut self, image: &[u8], asked: &Asked, records: &[Vec<u8>]) {
         let places = (0..records.len() as u64 + 2).chain([1 << 32, 1 << 63, u64::MAX]);
         for place in places {
             let rest = &records[records.len().min(place as usize)..];
-            let mut lengths = vec![0, 1, 8, image.len()];
+            let enough = 4 * image.len();
+            let mut lengths = vec![0, 1, 8, image.len(), enough];
             let mut end = 0;
             for (n, record) in rest.iter().enumerate() {
                 end += record.len();
@@ -112,7 +113,7 @@ impl Tried {
             for length in lengths {
                 let fill = |page: &mut [u8]| fill(records, place, page);
                 let answer = self.call(image, asked, place, length, fill);
-                if length == image.len() {
+                if length == enough {
                     assert_eq!((answer.count, answer.next), (rest.len() as u64, 0));
                 }
             }

@@ -3,11 +3,24 @@ use super::example::*;
 use super::open::tried;
 use checks::against::trial::with;
 use checks::generator::rendered::Rendered;
-use reading::image::{le64, Image};
-use reading::layout::{data, entry, field, header};
+use reading::image::{le32, le64, Image};
+use reading::layout::{array, data, entry, field, header, Layout};
 
 /// A way to change an image.
 type Change = fn(&mut Rendered);
+
+/// Each layout with each hash.
+const LAYOUTS: [(Layout, bool); 4] = [
+    (Layout::Regular, false),
+    (Layout::Regular, true),
+    (Layout::Compact, false),
+    (Layout::Compact, true),
+];
+
+/// Where the second item of the list stands.
+fn second_listed(it: &Rendered) -> u64 {
+    it.offsets[LIST] + array::ITEMS + it.draft.layout.array_item()
+}
 
 #[test]
 fn words_one_by_one() {
@@ -15,12 +28,13 @@ fn words_one_by_one() {
     let cases: [(&str, u64, Change); 30] = [
         ("ENTRY items falling", 8, |it| {
             let items = it.offsets[FIRST] + entry::ITEMS;
-            let (one, other) = (it.word(items), it.word(items + 16));
-            it.set(items, other);
-            it.set(items + 16, one);
+            let next = items + it.draft.layout.entry_item();
+            let (one, other) = (it.item(items), it.item(next));
+            it.set_item(items, other);
+            it.set_item(next, one);
         }),
         ("an item of an uncommitted ENTRY that is 0", 8, |it| {
-            it.set(it.offsets[UNCOMMITTED] + entry::ITEMS, 0)
+            it.set_item(it.offsets[UNCOMMITTED] + entry::ITEMS, 0)
         }),
         ("a stale entry_offset that is a DATA", 8, |it| {
             let to = it.offsets[LOT];
@@ -98,27 +112,33 @@ fn words_one_by_one() {
             it.set(it.offsets[LOT] + data::N_ENTRIES, 5)
         }),
         ("a list in another order", 10, |it| {
-            let items = it.offsets[LIST] + 24;
-            let (one, other) = (it.word(items), it.word(items + 16));
-            it.set(items, other);
-            it.set(items + 16, one);
+            let items = it.offsets[LIST] + array::ITEMS;
+            let third = items + 2 * it.draft.layout.array_item();
+            let (one, other) = (it.item(items), it.item(third));
+            it.set_item(items, other);
+            it.set_item(third, one);
         }),
         (
             "a list with an entry between the committed ones",
             10,
             |it| {
                 let to = it.offsets[FIRST + 1] + 8;
-                it.set(it.offsets[LIST] + 32, to)
+                it.set_item(second_listed(it), to)
             },
         ),
         ("count 0 and a held DATA", 10, |it| {
             it.set(it.offsets[DUE] + data::N_ENTRIES, 0)
         }),
         ("a counted item 0", 10, |it| {
-            it.set(it.offsets[LIST] + 32, 0)
+            it.set_item(second_listed(it), 0)
         }),
         ("an uncommitted ENTRY with a wrong item hash", 11, |it| {
-            it.set(it.offsets[UNCOMMITTED] + entry::ITEMS + 24, 1)
+            // A compact file has none: there is xor_hash.
+            let at = match it.draft.layout {
+                Layout::Regular => entry::ITEMS + 24,
+                Layout::Compact => entry::XOR_HASH,
+            };
+            it.set(it.offsets[UNCOMMITTED] + at, 1)
         }),
         ("an uncommitted ENTRY with a wrong xor_hash", 11, |it| {
             it.set(it.offsets[UNCOMMITTED] + entry::XOR_HASH, 0)
@@ -131,10 +151,10 @@ fn words_one_by_one() {
             it.set(it.offsets[FIELD_OFF] + field::HEAD_DATA_OFFSET, to)
         }),
     ];
-    for keyed in [false, true] {
+    for (layout, keyed) in LAYOUTS {
         for (what, number, change) in &cases {
             let mut draft = example();
-            draft.keyed = keyed;
+            (draft.layout, draft.keyed) = (layout, keyed);
             let mut made = drawn(&draft);
             change(&mut made);
             assert_eq!(tried.number(&made.image), *number, "{what}");
@@ -148,9 +168,9 @@ fn words_one_by_one() {
 #[test]
 fn every_word() {
     let mut tried = tried();
-    for keyed in [false, true] {
+    for (layout, keyed) in LAYOUTS {
         let mut draft = example();
-        draft.keyed = keyed;
+        (draft.layout, draft.keyed) = (layout, keyed);
         let image = drawn(&draft).image;
         let mut values: Vec<u64> = Image::walked(&image)
             .objects
@@ -168,4 +188,28 @@ fn every_word() {
     }
     tried.print("every word");
     assert!((3..12).all(|number| number == 3 || tried.answers[number] > 0));
+}
+
+/// Each half of a word of a compact file: items stand there, a DATA's tail fields, padding, and parts of
+/// longer numbers.
+#[test]
+fn every_half() {
+    let mut tried = tried();
+    let mut draft = example();
+    (draft.layout, draft.noise) = (Layout::Compact, true);
+    let image = drawn(&draft).image;
+    let objects = Image::walked(&image).objects;
+    let mut values: Vec<u32> = objects.iter().map(|it| it.offset as u32).collect();
+    values.extend([0, 1, 4, 8, 16, 20, 1 << 31, u32::MAX]);
+    for at in (8..image.len() as u64 - 3).step_by(4) {
+        let is = le32(&image, at);
+        let near = [is.wrapping_add(1), is.wrapping_sub(1), is ^ 1 << 31];
+        for &value in near.iter().chain(&values) {
+            let mut image = image.clone();
+            image[at as usize..][..4].copy_from_slice(&value.to_le_bytes());
+            tried.image(&image);
+        }
+    }
+    tried.print("every half");
+    assert!((4..12).all(|number| tried.answers[number] > 0));
 }

@@ -133,13 +133,12 @@ fn the_program_that_appends() {
 fn what_it_refuses() {
     let folder = folder("refused");
     let (program, path) = (program(&folder), folder.join("one.journal"));
-    for (name, number) in [
-        ("sealed-bullseye-c0-system", 12),
-        ("bullseye-k1-c0-online", 13),
-        ("bookworm-k1-c0-system", 25),
-        ("trixie-k1-c1-system", 4),
+    for (before, number) in [
+        (corpus::image("sealed-bullseye-c0-system"), 12),
+        (corpus::image("bullseye-k1-c0-online"), 13),
+        (corpus::image("bookworm-k1-c0-system"), 25),
+        (corpus::compressed(), 4),
     ] {
-        let before = corpus::image(name);
         std::fs::write(&path, &before).expect("a file");
         let output = typed(&program, &path, 0);
         let words = format!("refused {number}\n");

@@ -9,12 +9,14 @@ use crate::check::{check, shown};
 use crate::entries::logged;
 use crate::written::{carry_out, planned_of, At};
 
-const NAMES: [&str; 4] = [
+const NAMES: [&str; 5] = [
     "bullseye-k0-c0-system",
     "bullseye-k1-c0-online",
     "bullseye-k1-c0-system-archived",
     // With a header of 272 bytes and compatible bit 1.
     "trixie-k1-c0-system",
+    // The same, and compact.
+    "trixie-k1-c1-system",
 ];
 const ROOM: usize = 65_536;
 

@@ -1,10 +1,11 @@
 //! Every cut of an append: journalctl shows the entries from before it, and from the commit store on
 //! also the new one.
 use checks::random::Random;
+use reading::layout::Layout;
 use wrapper::sync_points;
 
 use crate::check::{exported, shown};
-use crate::entries::{grown, logged};
+use crate::entries::{grown_in, logged};
 use crate::export::Entry;
 use crate::file::{can_be_asked, File};
 use crate::written::{carry_out, nth, planned};
@@ -15,16 +16,19 @@ fn entries(image: &[u8]) -> Vec<Entry> {
 
 #[test]
 fn every_cut() {
-    for (header_size, before, keyed) in [
-        (256, 0, 0),
-        (256, 0, 1),
-        (256, 12, 0),
-        (256, 12, 1),
-        (272, 0, 1),
-        (272, 12, 0),
+    let (regular, compact) = (Layout::Regular, Layout::Compact);
+    for (layout, header_size, before, keyed) in [
+        (regular, 256, 0, 0),
+        (regular, 256, 0, 1),
+        (regular, 256, 12, 0),
+        (regular, 256, 12, 1),
+        (regular, 272, 0, 1),
+        (regular, 272, 12, 0),
+        (compact, 256, 0, 0),
+        (compact, 272, 12, 1),
     ] {
         let random = &mut Random::new(300 + keyed);
-        let image = grown(header_size, random, (3, 2), keyed, before);
+        let image = grown_in(layout, header_size, random, (3, 2), keyed, before);
         let mut payloads = logged(random, before + 1);
         payloads.push(b"NEW=1".to_vec());
         let list = planned(&image, nth(before + 1), &payloads);

@@ -1,11 +1,11 @@
 //! That the other tests can fail: with one bit changed a file is not passed, or it is shown otherwise.
 use checks::random::Random;
 use reading::image::le64;
-use reading::layout::{array, data, entry, header};
+use reading::layout::{array, data, entry, header, Layout};
 use wrapper::raw;
 
 use crate::check::exported;
-use crate::entries::grown;
+use crate::entries::grown_in;
 use crate::export::Entry;
 use crate::file::{knows_the_boot_bit, File};
 
@@ -19,13 +19,19 @@ fn seen(image: &[u8]) -> Option<(Vec<Entry>, Vec<u8>)> {
 
 #[test]
 fn one_bit() {
-    for (header_size, keyed) in [(256, 0), (256, 1), (272, 1)] {
-        let image = grown(header_size, &mut Random::new(keyed), (3, 2), keyed, 9);
+    for (form, header_size, keyed) in [
+        (Layout::Regular, 256, 0),
+        (Layout::Regular, 256, 1),
+        (Layout::Regular, 272, 1),
+        (Layout::Compact, 272, 1),
+    ] {
+        let random = &mut Random::new(keyed);
+        let image = grown_in(form, header_size, random, (3, 2), keyed, 9);
         let before = seen(&image);
         assert!(before.is_some());
 
         let payload = raw::value(&image, b"MESSAGE", 3);
-        let data = payload.at - data::PAYLOAD;
+        let data = payload.at - form.payload();
         let entry = raw::entry(&image, 4);
         let array = le64(&image, header::ENTRY_ARRAY_OFFSET);
         // An offset is changed by 256, anything else by 1.

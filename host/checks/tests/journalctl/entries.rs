@@ -1,5 +1,7 @@
 //! Files from the new one, without entries, to hundreds of entries.
+use checks::generator::compact::set_layout;
 use checks::random::Random;
+use reading::layout::Layout;
 
 use crate::check::check;
 use crate::written::{append, new_with, nth};
@@ -33,10 +35,23 @@ pub fn grown(
     keyed: u64,
     entries: u64,
 ) -> Vec<u8> {
+    grown_in(Layout::Regular, header_size, random, cells, keyed, entries)
+}
+
+/// The same in any layout: the new file is made compact, and the archive writes the rest.
+pub fn grown_in(
+    layout: Layout,
+    header_size: u64,
+    random: &mut Random,
+    cells: (u64, u64),
+    keyed: u64,
+    entries: u64,
+) -> Vec<u8> {
     let tables = 32 + 16 * (cells.0 + cells.1) as usize;
     let room = 504 * (entries as usize + 30);
     let length = header_size as usize + tables + room;
     let mut image = new_with(header_size, length, cells, keyed);
+    set_layout(&mut image, layout);
     for n in 1..=entries {
         append(&mut image, nth(n), &logged(random, n));
     }
@@ -47,11 +62,13 @@ pub fn grown(
 /// that fill an array.
 #[test]
 fn one_by_one() {
-    let every = |header_size| CELLS.map(|cells| (header_size, cells));
-    for (header_size, cells) in every(256).into_iter().chain(every(272)) {
+    let every = |layout, header_size| CELLS.map(|cells| (layout, header_size, cells));
+    let regular = every(Layout::Regular, 256).into_iter();
+    let regular = regular.chain(every(Layout::Regular, 272));
+    for (layout, header_size, cells) in regular.chain(every(Layout::Compact, 272)) {
         for keyed in [0, 1] {
             let random = &mut Random::new(cells.0 + keyed);
-            let mut image = grown(header_size, random, cells, keyed, 0);
+            let mut image = grown_in(layout, header_size, random, cells, keyed, 0);
             check(&image, 0);
             for n in 1..=30 {
                 append(&mut image, nth(n), &logged(random, n));
@@ -64,9 +81,17 @@ fn one_by_one() {
 #[test]
 fn hundreds() {
     for cells in CELLS {
-        for (header_size, keyed) in [(256, 0), (256, 1), (272, 0), (272, 1)] {
+        for (layout, header_size, keyed) in [
+            (Layout::Regular, 256, 0),
+            (Layout::Regular, 256, 1),
+            (Layout::Regular, 272, 0),
+            (Layout::Regular, 272, 1),
+            (Layout::Compact, 256, 0),
+            (Layout::Compact, 272, 1),
+        ] {
             let random = &mut Random::new(100 + cells.0 + keyed);
-            check(&grown(header_size, random, cells, keyed, 300), 300);
+            let image = grown_in(layout, header_size, random, cells, keyed, 300);
+            check(&image, 300);
         }
     }
 }

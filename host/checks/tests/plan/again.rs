@@ -5,10 +5,11 @@ use checks::generator::dice::{once_in, pick};
 use checks::generator::worked::request;
 use checks::generator::{appends, requests};
 use checks::random::Random;
+use reading::layout::Layout;
 use reading::request::Request;
 use wrapper::{carry_out, open};
 
-use crate::made::{fields, made_with, Tried};
+use crate::made::{fields, made_in, Tried};
 
 /// It opens, and no lookup, page or list has anything.
 fn shows_nothing(image: &[u8]) {
@@ -134,12 +135,19 @@ fn new_files_until_they_are_full() {
     }
     shapes.push((1_074_944, (65_536, 1_024)));
     for (room, cells) in shapes {
-        let kinds = [(256, false), (272, true), (256, true), (272, false)];
+        let (regular, compact) = (Layout::Regular, Layout::Compact);
+        let kinds = [
+            (regular, 256, false),
+            (compact, 272, true),
+            (regular, 272, true),
+            (compact, 256, false),
+        ];
         // The greatest tables take long.
         let kinds = &kinds[..if room > 100_000 { 2 } else { 4 }];
-        for &(header_size, keyed) in kinds {
+        for &(layout, header_size, keyed) in kinds {
             let random = &mut Random::new(room as u64);
-            let image = made_with(header_size, header_size as usize + room, cells, keyed);
+            let length = header_size as usize + room;
+            let image = made_in(layout, header_size, length, cells, keyed);
             let count = until_full(&mut tried, image, random);
             files += 1;
             entries += count;

@@ -1,26 +1,40 @@
 //! Arrays: "First array 4 items, a later one twice the one before, at most 65,536."
 use checks::against::plan::Append;
 use checks::generator::frame::set;
-use checks::generator::full::full_with;
+use checks::generator::full::full_in;
 use checks::generator::worked::request;
 use reading::image::{le64, Image};
-use reading::layout::{array, header, kind};
+use reading::layout::{array, header, kind, Layout};
 use reading::request::{packed, Request};
 
-use crate::made::{made, made_with, Tried};
+use crate::made::{made, made_in, Tried};
+
+/// The bytes of an array's item.
+fn item(layout: Layout) -> u64 {
+    match layout {
+        Layout::Regular => 8,
+        Layout::Compact => 4,
+    }
+}
 
 fn array_items(image: &[u8]) -> Vec<u64> {
     let image = Image::walked(image);
     let arrays = image.of_kind(kind::ENTRY_ARRAY);
-    arrays.iter().map(|it| (it.size - 24) / 8).collect()
+    let item = item(image.layout);
+    arrays.iter().map(|it| (it.size - 24) / item).collect()
 }
 
 /// One payload over and over, then with others: each plan is compared before it is carried out.
 #[test]
 fn grown_by_appends() {
     let mut tried = Tried::default();
-    for (header_size, keyed) in [(256, false), (256, true), (272, true)] {
-        let mut image = made_with(header_size, 65_536, (2, 1), keyed);
+    for (layout, header_size, keyed) in [
+        (Layout::Regular, 256, false),
+        (Layout::Regular, 256, true),
+        (Layout::Regular, 272, true),
+        (Layout::Compact, 272, true),
+    ] {
+        let mut image = made_in(layout, header_size, 65_536, (2, 1), keyed);
         for n in 1..=130 {
             let mut payloads = vec![b"PRIORITY=2".to_vec()];
             payloads.extend((n % 3 == 0).then(|| b"UNIT=a".to_vec()));
@@ -60,8 +74,13 @@ fn next_items(tried: &mut Tried, image: &[u8]) -> [u64; 2] {
         let found = stores.find(|store| le64(store, 0) == offset);
         le64(found.expect("a store"), 8)
     };
-    let first = value(start + 80 + 8);
-    [(first - 24) / 8, (value(start + 80 + first + 8) - 24) / 8]
+    let (entry, item) = match image.layout {
+        Layout::Regular => (80, 8),
+        Layout::Compact => (72, 4),
+    };
+    let first = value(start + entry + 8);
+    let second = value(start + entry + first.next_multiple_of(8) + 8);
+    [(first - 24) / item, (second - 24) / item]
 }
 
 /// Chains that doubled up to every size, and one array of a size around half of the greatest.
@@ -71,14 +90,16 @@ fn sizes_up_to_the_greatest() {
     for last in 2..=15 {
         let arrays: Vec<usize> = (2..=last).map(|power| 1 << power).collect();
         let header_size = [256, 272][last / 2 % 2];
-        let image = full_with(header_size, &arrays, last % 2 == 0, 1_200_000);
-        // The last array of the DATA's chain has one item less.
-        let size = 1u64 << last;
-        assert_eq!(
-            next_items(&mut tried, &image),
-            [2 * size, 2 * (size - 1)],
-            "after {size} items"
-        );
+        for layout in Layout::BOTH {
+            let image = full_in(layout, header_size, &arrays, last % 2 == 0, 1_200_000);
+            // The last array of the DATA's chain has one item less.
+            let size = 1u64 << last;
+            assert_eq!(
+                next_items(&mut tried, &image),
+                [2 * size, 2 * (size - 1)],
+                "after {size} items"
+            );
+        }
     }
     for (size, next) in [
         (32_767, [65_534, 65_532]),
@@ -88,8 +109,10 @@ fn sizes_up_to_the_greatest() {
         (65_536, [65_536, 65_536]),
         (65_537, [65_536, 65_536]),
     ] {
-        let image = full_with(272, &[size], false, 1_100_000);
-        assert_eq!(next_items(&mut tried, &image), next, "after {size} items");
+        for layout in Layout::BOTH {
+            let image = full_in(layout, 272, &[size], false, 1_100_000);
+            assert_eq!(next_items(&mut tried, &image), next, "after {size} items");
+        }
     }
     tried.print("sizes up to the greatest");
 }
@@ -132,17 +155,19 @@ fn spare_items() {
 #[test]
 fn arrays_chained_ahead() {
     let mut tried = Tried::default();
-    let mut image = full_with(272, &[2, 1, 3], true, 4000);
-    let fields = packed(&[b"A=1"]);
-    let ask = |seqnum: u64| Request {
-        boot_id: [0; 16],
-        ..request(&fields, seqnum, seqnum, seqnum)
-    };
-    // The first append makes arrays of 6 and 4 items; six more fill the first.
-    for seqnum in 7..=20 {
-        assert_eq!(tried.append(&image, ask(seqnum)), 0);
-        tried.carried(&mut image, ask(seqnum));
+    for layout in Layout::BOTH {
+        let mut image = full_in(layout, 272, &[2, 1, 3], true, 4000);
+        let fields = packed(&[b"A=1"]);
+        let ask = |seqnum: u64| Request {
+            boot_id: [0; 16],
+            ..request(&fields, seqnum, seqnum, seqnum)
+        };
+        // The first append makes arrays of 6 and 4 items; six more fill the first.
+        for seqnum in 7..=20 {
+            assert_eq!(tried.append(&image, ask(seqnum)), 0);
+            tried.carried(&mut image, ask(seqnum));
+        }
+        assert_eq!(le64(&image, header::N_ENTRIES), 20);
+        assert_eq!(array_items(&image), [2, 1, 3, 2, 1, 2, 6, 4, 8, 12, 16]);
     }
-    assert_eq!(le64(&image, header::N_ENTRIES), 20);
-    assert_eq!(array_items(&image), [2, 1, 3, 2, 1, 2, 6, 4, 8, 12, 16]);
 }

@@ -6,11 +6,11 @@ use checks::against::plan::{number, Append};
 use checks::generator::worked::{first, request, second, LAST};
 use checks::generator::{appends, grown, requests};
 use checks::random::Random;
-use reading::layout::header;
+use reading::layout::{header, Layout};
 use reading::request::Request;
 use wrapper::carry_out;
 
-use crate::made::made_with;
+use crate::made::made_in;
 
 #[derive(Default)]
 struct Tried {
@@ -51,8 +51,15 @@ impl Tried {
 #[test]
 fn worked_examples() {
     let mut tried = Tried::default();
-    for (header_size, keyed) in [(256, false), (256, true), (272, false), (272, true)] {
-        let mut image = made_with(header_size, 1024, (1, 1), keyed);
+    for (layout, header_size, keyed) in [
+        (Layout::Regular, 256, false),
+        (Layout::Regular, 256, true),
+        (Layout::Regular, 272, false),
+        (Layout::Regular, 272, true),
+        (Layout::Compact, 256, true),
+        (Layout::Compact, 272, false),
+    ] {
+        let mut image = made_in(layout, header_size, 1024, (1, 1), keyed);
         let (first, second) = (first(), second());
         for ask in [
             request(&first, LAST, 1700000000000000, 50),
@@ -62,15 +69,22 @@ fn worked_examples() {
         }
     }
     tried.print("worked examples");
-    assert_eq!(tried.cuts, 2 * (73 + 34) + 2 * (75 + 36));
+    assert_eq!(
+        tried.cuts,
+        2 * (73 + 34) + 2 * (75 + 36) + (70 + 32) + (72 + 34)
+    );
 }
 
 /// What a host meets after a cut: 13; and with state 0, 14 from the first store of group 3 up to the
 /// commit store.
 #[test]
 fn another_append_after_a_cut() {
-    for (header_size, count) in [(256, 72), (272, 74)] {
-        let image = made_with(header_size, 1024, (1, 1), true);
+    for (layout, header_size, count) in [
+        (Layout::Regular, 256, 72),
+        (Layout::Regular, 272, 74),
+        (Layout::Compact, 272, 71),
+    ] {
+        let image = made_in(layout, header_size, 1024, (1, 1), true);
         let fields = first();
         let ask = request(&fields, 5, 0, 0);
         let (_, list) = put(&image, ask, count);
@@ -152,8 +166,12 @@ fn any_stores_between_syncs() {
 fn every_choice_between_syncs() {
     let random = &mut Random::new(31_000);
     let mut images = 0;
-    for header_size in [256, 272] {
-        let mut image = made_with(header_size, 1024, (1, 1), header_size == 272);
+    for (layout, header_size) in [
+        (Layout::Regular, 256),
+        (Layout::Regular, 272),
+        (Layout::Compact, 272),
+    ] {
+        let mut image = made_in(layout, header_size, 1024, (1, 1), header_size == 272);
         let (first, second) = (first(), second());
         for ask in [request(&first, 1, 0, 0), request(&second, 2, 0, 0)] {
             let tried = orders(&image, ask, (520, 5), random);
@@ -170,5 +188,7 @@ fn every_choice_between_syncs() {
     // 520 of the objects, then five counters, links, counts and facts, commit store, state.
     let first = |facts: u64| 520 + 32 + 32 + facts + 2 + 2;
     let second = |facts: u64| 520 + 32 + 4 + facts + 2 + 2;
-    assert_eq!(images, first(128) + second(64) + first(512) + second(256));
+    let regular = first(128) + second(64) + first(512) + second(256);
+    // The tail word is one more of the second append's.
+    assert_eq!(images, regular + first(512) + second(512));
 }

@@ -4,13 +4,13 @@ use checks::generator::render::render;
 use checks::generator::worked::{first, request};
 use checks::random::Random;
 use reading::image::arena_end;
-use reading::layout::MOST_BYTES;
+use reading::layout::{Layout, MOST_BYTES};
 use reading::request::{packed, Request};
 
 use crate::made::{made, Tried};
 
 /// A FIELD with three DATA that no entry holds, and one entry with a fourth.
-fn unheld(header_size: u64, keyed: bool, stale: bool) -> Draft {
+fn unheld(layout: Layout, header_size: u64, keyed: bool, stale: bool) -> Draft {
     let data = |payload: &[u8], n_entries: u64| {
         let entry_offset = if stale || n_entries > 0 {
             Item::Entry(5)
@@ -49,6 +49,7 @@ fn unheld(header_size: u64, keyed: bool, stale: bool) -> Draft {
         }),
     ];
     Draft {
+        layout,
         header_size,
         keyed,
         committed: vec![5],
@@ -63,9 +64,15 @@ fn unheld(header_size: u64, keyed: bool, stale: bool) -> Draft {
 #[test]
 fn old_data_of_count_0() {
     let mut tried = Tried::default();
-    for (header_size, keyed) in [(256, false), (256, true), (272, false)] {
+    for (layout, header_size, keyed) in [
+        (Layout::Regular, 256, false),
+        (Layout::Regular, 256, true),
+        (Layout::Regular, 272, false),
+        (Layout::Compact, 256, true),
+        (Layout::Compact, 272, false),
+    ] {
         for stale in [false, true] {
-            let draft = unheld(header_size, keyed, stale);
+            let draft = unheld(layout, header_size, keyed, stale);
             let image = render(&draft, &mut Random::new(7)).image;
             for chosen in 1u32..32 {
                 let all: [&[u8]; 5] = [b"LOT=1", b"LOT=2", b"LOT=3", b"LOT=", b"LOT=4"];
@@ -90,10 +97,15 @@ fn old_data_of_count_0() {
 fn longest_images() {
     let mut tried = Tried::default();
     let fields = first();
-    for (header_size, keyed) in [(256, false), (272, true)] {
-        for room in [408, 416, 424, 4096] {
+    // The new objects have 416 bytes, and 392 in a compact file.
+    for (layout, header_size, keyed, need) in [
+        (Layout::Regular, 256, false, 416),
+        (Layout::Regular, 272, true, 416),
+        (Layout::Compact, 272, true, 392),
+    ] {
+        for room in [need - 8, need, need + 8, 4096] {
             // A foreign object up to where the new ones are to begin.
-            let mut draft = unheld(header_size, keyed, false);
+            let mut draft = unheld(layout, header_size, keyed, false);
             draft.parts = vec![Part::Foreign {
                 kind: 9,
                 size: MOST_BYTES - header_size - 2 * 48 - room,
@@ -103,7 +115,7 @@ fn longest_images() {
             (draft.spare, draft.trailing) = (room, 0);
             let image = render(&draft, &mut Random::new(3)).image;
             assert_eq!(arena_end(&image), u128::from(MOST_BYTES));
-            let number = if room < 416 { 18 } else { 0 };
+            let number = if room < need { 18 } else { 0 };
             let ask = request(&fields, 1, 0, 0);
             assert_eq!(tried.append(&image, ask), number, "{room}");
         }

@@ -1,6 +1,8 @@
 //! Files made, planned on and written by the archive, and how often it was asked.
 use checks::against::plan::{number, Append};
+use checks::generator::compact::set_layout;
 use checks::random::Random;
+use reading::layout::Layout;
 use reading::request::{packed, Request};
 use wrapper::{carry_out, new, Planned};
 
@@ -23,6 +25,19 @@ pub fn made_with(header_size: u64, length: usize, cells: (u64, u64), keyed: bool
         Ok(()),
         "a new file of {length} bytes"
     );
+    image
+}
+
+/// The same made compact, or left regular: no new file is compact.
+pub fn made_in(
+    layout: Layout,
+    header_size: u64,
+    length: usize,
+    cells: (u64, u64),
+    keyed: bool,
+) -> Vec<u8> {
+    let mut image = made_with(header_size, length, cells, keyed);
+    set_layout(&mut image, layout);
     image
 }
 

@@ -3,6 +3,7 @@
 //! carries out.
 mod again;
 mod arrays;
+mod compact;
 mod corpus;
 mod cuts;
 mod drafted;
@@ -21,3 +22,4 @@ mod rule;
 mod set_clock;
 mod sets;
 mod syncs;
+mod tails;

@@ -6,13 +6,13 @@ use checks::generator::worked::request;
 use checks::generator::{appends, grown, requests};
 use checks::random::Random;
 use reading::image::{arena_end, le64, name_of, Image};
-use reading::layout::header;
+use reading::layout::{header, Layout};
 use reading::refusal::{refusal, APPEND_ORDER};
 use reading::request::{distinct, unpacked, Request};
 use reading::room::{places, Placed, Slot};
 use wrapper::{carry_out, plan, Planned};
 
-use crate::made::{fields, made_with, Tried, BOOT, MACHINE};
+use crate::made::{fields, made_in, Tried, BOOT, MACHINE};
 
 /// What is special about an append that is taken.
 fn special(image: &[u8], request: &Request) -> Vec<&'static str> {
@@ -31,7 +31,10 @@ fn special(image: &[u8], request: &Request) -> Vec<&'static str> {
     see(!late, "a header of 256");
     see(late && !boot_bit, "a header of 272");
     see(late && boot_bit, "a header of 272 with compatible bit 1");
-    let keyed = image[header::INCOMPATIBLE_FLAGS as usize] != 0;
+    let keyed = image[header::INCOMPATIBLE_FLAGS as usize] & 4 != 0;
+    let compact = words.layout == Layout::Compact;
+    see(!compact, "regular");
+    see(compact, "compact");
     see(keyed, "keyed");
     see(!keyed, "not keyed");
     let first = le64(image, header::N_ENTRIES) == 0;
@@ -74,7 +77,7 @@ fn special(image: &[u8], request: &Request) -> Vec<&'static str> {
         match slot {
             Slot::Inline => see(true, "an old DATA of count 0"),
             Slot::Spare(at) => {
-                let same = words.word(at) == places.entry;
+                let same = words.item(at) == places.entry;
                 see(!same && global, "a spare item of the header's chain");
                 see(!same && !global, "a spare item of a DATA's chain");
                 see(
@@ -82,7 +85,7 @@ fn special(image: &[u8], request: &Request) -> Vec<&'static str> {
                     "a spare item of the header's with the offset",
                 );
                 see(same && !global, "a spare item of a DATA's with the offset");
-                see(words.word(at) != 0, "a spare item that holds something");
+                see(words.item(at) != 0, "a spare item that holds something");
             }
             Slot::Array { items, .. } => {
                 see(items == 4 && global, "a first array of the header's chain");
@@ -101,7 +104,7 @@ fn special(image: &[u8], request: &Request) -> Vec<&'static str> {
 }
 
 /// What `special` can say.
-const KINDS: usize = 28;
+const KINDS: usize = 30;
 
 #[test]
 fn appends_of_every_kind() {
@@ -146,7 +149,9 @@ fn files_that_grow() {
             0 => grown::grown(random, 4),
             it => {
                 let length = 3_000 + 8 * random.below(2_000);
-                made_with([256, 272][it as usize - 1], length, (3, 2), seed % 2 == 0)
+                let layout = Layout::BOTH[seed as usize / 2 % 2];
+                let header_size = [256, 272][it as usize - 1];
+                made_in(layout, header_size, length, (3, 2), seed % 2 == 0)
             }
         };
         for _ in 0..25 {
@@ -173,10 +178,11 @@ fn files_that_grow() {
 #[test]
 fn a_file_of_many_entries() {
     let mut tried = Tried::default();
-    for keyed in [false, true] {
+    for (layout, header_size, keyed) in
+        [(Layout::Regular, 256, false), (Layout::Compact, 272, true)]
+    {
         let random = &mut Random::new(60_000_000);
-        let header_size = if keyed { 272 } else { 256 };
-        let mut image = made_with(header_size, 200_000, (50, 7), keyed);
+        let mut image = made_in(layout, header_size, 200_000, (50, 7), keyed);
         let mut list = vec![0; 16 * 1_000];
         for n in 1..=400 {
             let payloads = [

@@ -4,9 +4,10 @@ use checks::generator::appends;
 use checks::generator::dice::{pick, shuffle, some_of};
 use checks::generator::worked::{first, request};
 use checks::random::Random;
+use reading::layout::Layout;
 use wrapper::carry_out;
 
-use crate::made::{list, made_with, Tried};
+use crate::made::{list, made_in, Tried};
 
 /// The image with the first k stores carried out by the archive.
 fn carried(image: &[u8], list: &[u8], k: usize) -> Vec<u8> {
@@ -52,8 +53,12 @@ fn after_any_stores() {
 #[test]
 fn cut_once_more() {
     let mut tried = Tried::default();
-    for (header_size, count) in [(256, 72), (272, 74)] {
-        let image = made_with(header_size, 1024, (1, 1), true);
+    for (layout, header_size, count) in [
+        (Layout::Regular, 256, 72),
+        (Layout::Regular, 272, 74),
+        (Layout::Compact, 272, 71),
+    ] {
+        let image = made_in(layout, header_size, 1024, (1, 1), true);
         let fields = first();
         let stores = tried.carried(&mut image.clone(), request(&fields, 1, 0, 0));
         let whole = list(&stores);

@@ -1,11 +1,11 @@
-//! Every set of the numbers of an append together, on files of each header size: the first in the
+//! Every set of the numbers of an append together, on files of each header size and layout: the first in the
 //! order of tests is the answer, and 25 stands between 12 and 13.
 use checks::against::plan::Append;
 use checks::generator::frame::set;
-use checks::generator::full::full_with;
+use checks::generator::full::full_in;
 use checks::generator::worked::request;
-use reading::image::le64;
-use reading::layout::{header, HEADER_SIZES};
+use reading::image::{layout, le64, Image};
+use reading::layout::{data, header, kind, Layout, HEADER_SIZES};
 use reading::request::packed;
 
 use crate::made::Tried;
@@ -28,17 +28,18 @@ fn damaged(whole: &[u8], has: impl Fn(u64) -> bool, late: bool) -> Vec<u8> {
         image[header::STATE as usize] = 1;
     }
     if has(14) {
-        let at = if late {
-            header::TAIL_ENTRY_OFFSET
-        } else {
-            header::N_DATA
+        let data = Image::walked(&image).of_kind(kind::DATA)[0].offset;
+        let at = match layout(&image) {
+            Layout::Compact => data + data::TAIL_ENTRY_ARRAY_OFFSET,
+            Layout::Regular if late => header::TAIL_ENTRY_OFFSET,
+            Layout::Regular => header::N_DATA,
         };
         let is = le64(&image, at);
         set(&mut image, at, is + 1);
     }
     if has(18) {
         let tail = le64(&image, header::TAIL_OBJECT_OFFSET);
-        let end = tail + le64(&image, tail + 8);
+        let end = tail + le64(&image, tail + 8).next_multiple_of(8);
         let arena_size = end + 64 - le64(&image, header::HEADER_SIZE);
         set(&mut image, header::ARENA_SIZE, arena_size);
     }
@@ -49,8 +50,9 @@ fn damaged(whole: &[u8], has: impl Fn(u64) -> bool, late: bool) -> Vec<u8> {
 fn every_set_of_numbers() {
     let mut tried = Tried::default();
     let fields = packed(&[b"A=1", b"A=2"]);
-    for header_size in HEADER_SIZES {
-        let whole = full_with(header_size, &[4], header_size != 256, 4_000);
+    let regular = HEADER_SIZES.map(|header_size| (Layout::Regular, header_size));
+    for (layout, header_size) in regular.into_iter().chain([(Layout::Compact, 272)]) {
+        let whole = full_in(layout, header_size, &[4], header_size != 256, 4_000);
         for (flags, of_272, of_others) in FLAGS {
             let is_12 = if header_size == 272 {
                 of_272

@@ -14,22 +14,46 @@ use checks::generator::{appends, grown, requests};
 use checks::random::Random;
 use reading::carry::Store;
 use reading::image::le64;
-use reading::layout::header;
+use reading::layout::{header, Layout};
 use reading::plan::{groups, plan};
 use reading::request::{packed, Request};
 
-use crate::made::{made_with, Tried};
+use crate::made::{made_in, Tried};
 
 #[test]
 fn worked_examples() {
     let mut tried = Tried::default();
-    // In a header of 272 group 6 has two stores more.
-    for (header_size, of_first, of_second) in [
-        (256, [53, 58, 63, 70, 71, 72], [18, 23, 25, 31, 32, 33]),
-        (272, [53, 58, 63, 72, 73, 74], [18, 23, 25, 33, 34, 35]),
+    // In a header of 272 group 6 has two stores more; in a compact file the objects are shorter, and the
+    // second append has a tail word in group 5.
+    let (regular, compact) = (Layout::Regular, Layout::Compact);
+    for (layout, header_size, of_first, of_second) in [
+        (
+            regular,
+            256,
+            [53, 58, 63, 70, 71, 72],
+            [18, 23, 25, 31, 32, 33],
+        ),
+        (
+            regular,
+            272,
+            [53, 58, 63, 72, 73, 74],
+            [18, 23, 25, 33, 34, 35],
+        ),
+        (
+            compact,
+            256,
+            [50, 55, 60, 67, 68, 69],
+            [15, 20, 22, 29, 30, 31],
+        ),
+        (
+            compact,
+            272,
+            [50, 55, 60, 69, 70, 71],
+            [15, 20, 22, 31, 32, 33],
+        ),
     ] {
         for keyed in [false, true] {
-            let mut image = made_with(header_size, 4096, (1, 1), keyed);
+            let mut image = made_in(layout, header_size, 4096, (1, 1), keyed);
             for (fields, seqnum, points) in
                 [(first(), LAST, of_first), (second(), LAST + 1, of_second)]
             {
@@ -79,17 +103,19 @@ fn by_shape() {
         };
         assert_eq!(tried.append(&image, asked.request()), 0);
         let first = le64(&image, header::N_ENTRIES) == 0;
-        let keyed = image[header::INCOMPATIBLE_FLAGS as usize] != 0;
+        let flags = image[header::INCOMPATIBLE_FLAGS as usize];
         let header_size = le64(&image, header::HEADER_SIZE);
-        let shape = (header_size, keyed, first, groups[4].is_empty());
+        let shape = (header_size, flags, first, groups[4].is_empty());
         let facts = [5, 7][usize::from(first)] + [0, 2][usize::from(header_size == 272)];
         assert_eq!(groups[5].len(), facts);
         *shapes.entry(shape).or_insert(0) += 1;
         most = most.max(groups[3].len());
     }
-    println!("(header, keyed, a first entry, no old DATA): {shapes:?}, up to {most} links");
+    println!(
+        "(header, incompatible flags, a first entry, no old DATA): {shapes:?}, up to {most} links"
+    );
     // A first entry has no old DATA here.
-    assert!(shapes.len() == 12 && shapes.values().all(|&n| n > 5) && most > 15);
+    assert!(shapes.len() == 24 && shapes.values().all(|&n| n > 2) && most > 15);
 }
 
 /// The image with these words stored before the append.
@@ -131,7 +157,8 @@ fn group_4_there_already() {
     for seed in 0..8 {
         let random = &mut Random::new(seed + 22_000);
         let header_size = [256, 272][seed as usize / 4];
-        let mut image = made_with(header_size, 8192, (1 + seed, 2), seed % 2 == 0);
+        let layout = Layout::BOTH[seed as usize / 2 % 2];
+        let mut image = made_in(layout, header_size, 8192, (1 + seed, 2), seed % 2 == 0);
         // One DATA, several, and all of them old from the second entry on.
         let fields = match seed % 3 {
             0 => packed(&[b"LOT=1"]),

@@ -18,7 +18,7 @@ fn real_files() {
         ("sealed-bullseye-c0-system", 0, 3, 12),
         ("bookworm-k1-c0-system", 0, 3, 25),
         ("trixie-k1-c0-system", 0, 3, 0),
-        ("trixie-k1-c1-system", 4, 0, 4),
+        ("trixie-k1-c1-system", 0, 3, 0),
     ] {
         let image = corpus::image(name);
         assert_eq!(refusal(&image), opens, "{name}");

@@ -3,7 +3,7 @@ use std::collections::BTreeMap;
 
 use checks::generator::appends;
 use checks::random::Random;
-use reading::layout::{data, entry, header};
+use reading::layout::{data, entry, header, Layout};
 use reading::lookup::open;
 use reading::plan::plan;
 use reading::tail::tail;
@@ -28,10 +28,15 @@ fn appends_have_every_form() {
             (272, 2) => "a header of 272 with compatible bit 1",
             other => panic!("{other:?}"),
         });
+        let compact = journal.image.layout == Layout::Compact;
+        seen.push(match compact {
+            false => "a regular file",
+            true => "a compact file",
+        });
         let arrays = journal
             .image
             .arrays(journal.image.word(header::ENTRY_ARRAY_OFFSET));
-        let tail = tail(&journal.image).array_offset;
+        let tail = tail(&journal.image).array.offset;
         if tail != 0 && arrays.last().is_some_and(|last| last.offset != tail) {
             seen.push("arrays chained ahead");
         }
@@ -41,8 +46,11 @@ fn appends_have_every_form() {
         match items.get(journal.committed.len()) {
             None if items.is_empty() => seen.push("the first global array"),
             None => seen.push("a later global array"),
-            Some((at, _)) if stores.iter().any(|store| store.offset == *at) => {
-                seen.push("a spare global item")
+            Some((at, _)) if stores.iter().any(|store| store.offset == at / 8 * 8) => {
+                seen.push("a spare global item");
+                if compact && at % 8 == 4 {
+                    seen.push("an item in the other half of a committed one's word");
+                }
             }
             Some(_) => seen.push("a spare global item that holds the entry already"),
         }
@@ -58,6 +66,12 @@ fn appends_have_every_form() {
                 journal.image.chain_items(first).len() as u64,
                 store.value - 1,
             );
+            let tail = object.offset + data::TAIL_ENTRY_ARRAY_OFFSET;
+            let stored = stores.iter().any(|store| store.offset == tail);
+            assert_eq!(stored, compact && counted > 0);
+            if stored {
+                seen.push("a DATA's tail word");
+            }
             seen.push(match counted {
                 0 => "an old DATA of count 0",
                 _ if room > counted - 1 => "a DATA's spare item",
@@ -79,6 +93,6 @@ fn appends_have_every_form() {
     for (what, times) in &table {
         println!("{times:>6} {what}");
     }
-    assert_eq!(table.len(), 14);
+    assert_eq!(table.len(), 18);
     assert!(table.values().all(|&times| times >= 20));
 }

@@ -6,7 +6,7 @@ use checks::generator::good;
 use checks::generator::rendered::Rendered;
 use checks::random::Random;
 use reading::committed::{counted, list};
-use reading::layout::{data, TAIL_ENTRY_BOOT_ID};
+use reading::layout::{data, Layout, TAIL_ENTRY_BOOT_ID};
 use reading::lookup::open;
 
 /// What is special about a good image.
@@ -16,6 +16,10 @@ fn freedoms(made: &Rendered) -> Vec<&'static str> {
     let last = journal.committed.last().copied().unwrap_or(0);
     let mut seen = vec![
         if draft.keyed { "keyed" } else { "not keyed" },
+        match draft.layout {
+            Layout::Regular => "regular",
+            Layout::Compact => "compact",
+        },
         if draft.data_table_first {
             "data table first"
         } else {
@@ -94,10 +98,19 @@ fn freedoms(made: &Rendered) -> Vec<&'static str> {
                     "a FIELD off its chain with a list",
                 );
             }
-            Part::Array(array) => see(
-                array.items.contains(&Item::End),
-                "a spare item with the next offset",
-            ),
+            Part::Array(array) => {
+                see(
+                    array.items.contains(&Item::End),
+                    "a spare item with the next offset",
+                );
+                let size = draft.layout.array_size(array.items.len() as u64);
+                let padded = size % 8 != 0;
+                see(padded, "an odd number of items in an array");
+                see(
+                    padded && made.image[(at + size) as usize..][..4] != [0; 4],
+                    "padding that is not 0",
+                );
+            }
             Part::Data(it) => {
                 let counted = counted(&journal.image, at).expect("opens");
                 let above = counted.iter().position(|&offset| offset > last);
@@ -164,6 +177,6 @@ fn good_images_have_every_freedom() {
     for (what, times) in &table {
         println!("{times:>6} {what}");
     }
-    assert_eq!(table.len(), 38);
+    assert_eq!(table.len(), 42);
     assert!(table.values().all(|&times| times >= 40));
 }

@@ -6,7 +6,6 @@ use checks::random::Random;
 use reading::ask::{ask, Answer};
 use reading::committed::{counted, list};
 use reading::index::{field_list, on_chain, Index};
-use reading::layout::data;
 use reading::lookup::{open, Journal, Part};
 
 /// The lookups by the tables and lists, as a reader does them, against the scan.
@@ -29,7 +28,7 @@ fn by_index(journal: &Journal) {
         all.retain(|object| !list(&counted(image, object.offset).expect("opens"), last).is_empty());
         let places: Vec<u64> = all
             .iter()
-            .map(|object| object.offset + data::PAYLOAD)
+            .map(|object| object.offset + image.layout.payload())
             .collect();
         let scanned: Vec<u64> = journal
             .payloads(name)

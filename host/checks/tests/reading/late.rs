@@ -16,7 +16,7 @@ use reading::plan::plan;
 use reading::refusal::clause::*;
 use reading::refusal::refusal;
 use reading::request::packed;
-use reading::tail::{tail, Tail};
+use reading::tail::{tail, Tail, TailArray};
 
 /// The first refusal of an append, 0 if it is taken.
 fn number(image: &[u8], seqnum: u64) -> u64 {
@@ -150,8 +150,10 @@ fn late_fields() {
         let words = Image::walked(&image);
         let arrays = words.arrays(words.word(header::ENTRY_ARRAY_OFFSET));
         let right = Tail {
-            array_offset: arrays[1].offset,
-            array_n_entries: 4,
+            array: TailArray {
+                offset: arrays[1].offset,
+                n_entries: 4,
+            },
             entry_offset: words.of_kind(kind::ENTRY)[5].offset,
         };
         assert_eq!(tail(&words), right);
@@ -161,7 +163,7 @@ fn late_fields() {
             set(&mut image, at, value);
             found(&image)
         };
-        let word = right.array_offset + (4 << 32);
+        let word = arrays[1].offset + (4 << 32);
         if header_size >= 264 {
             assert_eq!(with(256, word + 8), [TAIL_ARRAY]);
             assert_eq!(with(256, word + (1 << 32)), [TAIL_ARRAY_COUNT]);

@@ -2,12 +2,13 @@
 //! header is.
 use crate::person::{append, asked, bytes, file, folder, made, typed, MACHINE};
 use checks::corpus;
+use checks::generator::compact::set_layout;
 use checks::generator::frame::set;
 use checks::generator::good::good;
 use checks::generator::worked::{appended, first, made as small, request, two_appends, LAST};
 use checks::random::Random;
 use reading::image::{le64, Image};
-use reading::layout::header;
+use reading::layout::{header, Layout};
 use std::path::Path;
 
 /// The first three lines.
@@ -98,6 +99,27 @@ fn a_full_file() {
     assert!(appends.contains(" (refusal 18: "), "{appends}");
     let expected = "room: 0 of 480 bytes left, for no entry of 416 bytes, the present mean";
     assert_eq!(room, expected);
+}
+
+/// With as many bytes left as the least ENTRY has, an entry might fit.
+#[test]
+fn room_for_the_least_entry() {
+    let folder = folder("check-least");
+    // The tables, and the objects of the first append.
+    for (layout, objects, least) in [
+        (Layout::Regular, 64 + 416, 80),
+        (Layout::Compact, 64 + 392, 72),
+    ] {
+        for (left, takes) in [(least, true), (least - 8, false)] {
+            let mut image = small(256 + objects + left, 1);
+            set_layout(&mut image, layout);
+            appended(&mut image, &request(&first(), LAST, 1, 1));
+            let path = file(&folder, "least.journal", &image);
+            let [_, appends, room] = lines(&path);
+            assert_eq!(appends.starts_with("takes appends"), takes, "{appends}");
+            assert!(room.starts_with(&format!("room: {left} of ")), "{room}");
+        }
+    }
 }
 
 /// What is left, and what the entries take, by the independent reading.

@@ -36,6 +36,10 @@ fn what_check_says() {
         ("bullseye-k0-c0-system", format!("256 bytes; {OF_ANY}")),
         ("bookworm-k1-c0-system", format!("264 bytes; {OF_ANY}")),
         ("trixie-k1-c0-system", format!("272 bytes; {OF_LAST}")),
+        (
+            "trixie-k1-c1-system",
+            format!("272 bytes, compact; {OF_LAST}"),
+        ),
     ] {
         assert_eq!(line(&corpus::path(name)), expected);
         let mut image = corpus::image(name);
@@ -118,17 +122,19 @@ fn real_files() {
         image[header::MACHINE_ID as usize..][..16].fill(2);
         image
     };
-    let image = grown("trixie-k1-c0-system");
-    let path = file(&folder, "272.journal", &image);
-    append(&path, 41, &["A=1"]).done();
-    let after = bytes(&path);
-    assert!(after == expected(&image, 41, &[b"A=1"]).0);
-    assert_eq!(le32(&after, 260), le32(&image, 260) + 1);
-    for at in [256, 260, 264] {
-        let mut wrong = image.clone();
-        wrong[at] ^= 8;
-        let path = file(&folder, "wrong.journal", &wrong);
-        assert_eq!(append(&path, 41, &["A=1"]).refused(&path), 14, "{at}");
+    for name in ["trixie-k1-c0-system", "trixie-k1-c1-system"] {
+        let image = grown(name);
+        let path = file(&folder, "272.journal", &image);
+        append(&path, 41, &["A=1"]).done();
+        let after = bytes(&path);
+        assert!(after == expected(&image, 41, &[b"A=1"]).0);
+        assert_eq!(le32(&after, 260), le32(&image, 260) + 1);
+        for at in [256, 260, 264] {
+            let mut wrong = image.clone();
+            wrong[at] ^= 8;
+            let path = file(&folder, "wrong.journal", &wrong);
+            assert_eq!(append(&path, 41, &["A=1"]).refused(&path), 14, "{at}");
+        }
     }
 
     let image = grown("bookworm-k1-c0-system");

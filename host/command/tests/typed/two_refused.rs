@@ -22,12 +22,13 @@ fn all_say(files: &[PathBuf; 2]) -> String {
     words
 }
 
-/// The first file's refusal, else the second's, with the name of the file: 4 of a real file, and 5 of
-/// one that was cut short.
+/// The first file's refusal, else the second's, with the name of the file: 4 of a file that may be
+/// compressed, and 5 of one that was cut short.
 #[test]
 fn refused() {
     let folder = folder("two-refused");
-    let [good, four] = ["bullseye-k1-c0-online", "trixie-k1-c1-system"].map(corpus::path);
+    let good = corpus::path("bullseye-k1-c0-online");
+    let four = file(&folder, "compressed.journal", &corpus::compressed());
     let whole = bytes(&good);
     let five = file(&folder, "cut.journal", &whole[..whole.len() - 8]);
     for (first, second, of) in [

@@ -24,10 +24,6 @@ fn sentence(said: String, number: u64) -> String {
 
 #[test]
 fn by_a_newer_systemd() {
-    let compact =
-        "the file was written by a newer systemd, in its compact form, which is not read \
-                   here: use journalctl for it";
-    assert_eq!(of(&corpus::path("trixie-k1-c1-system"), 4), compact);
     let mut image = corpus::image("trixie-k1-c0-system");
     set(&mut image, header::HEADER_SIZE, 280);
     let longer =
@@ -52,9 +48,12 @@ fn other_forms() {
     assert_eq!(flagged(1), compressed("xz"));
     assert_eq!(flagged(8), compressed("zstd"));
     assert_eq!(flagged(2 + 8), compressed("lz4 and zstd"));
+    // Being compact is no hindrance.
+    assert_eq!(flagged(8 + 16), compressed("zstd"));
     let unknown = "the file was written by a newer systemd, in a form that is not known here: use \
                    journalctl for it";
     assert_eq!(flagged(32), unknown);
+    assert_eq!(flagged(16 + 64), unknown);
 }
 
 #[test]

@@ -19,7 +19,7 @@ clauses! { CLAUSES:
     SHORT = 1, "fewer than 256 bytes";
     LONG = 2, "more than 8,388,608 bytes";
     SIGNATURE_DIFFERS = 3, "signature differs";
-    INCOMPATIBLE_BIT = 4, "an incompatible bit other than bit 2";
+    INCOMPATIBLE_BIT = 4, "an incompatible bit other than bits 2 and 4";
     HEADER_SIZE = 5, "header_size none of 256, 264 and 272";
     HEADER_ABOVE_LENGTH = 5, "the sum above the image length, and so the header alone";
     ARENA_NOT_EIGHTS = 5, "arena_size not a multiple of 8";
@@ -36,16 +36,16 @@ clauses! { CLAUSES:
     FLAG_BIT_0 = 6, "flag bit 0 set";
     FLAG_BIT_1 = 6, "flag bit 1 set";
     FLAG_BIT_2 = 6, "flag bit 2 set";
-    DATA_BELOW = 6, "DATA below 65";
+    DATA_BELOW = 6, "DATA below 65, or 73 if compact";
     FIELD_BELOW = 6, "FIELD below 41";
-    ENTRY_BELOW = 6, "ENTRY below 80";
-    ENTRY_NOT_ITEMS = 6, "ENTRY not 64 + 16n";
+    ENTRY_BELOW = 6, "ENTRY below 80, or 68 if compact";
+    ENTRY_NOT_ITEMS = 6, "ENTRY not 64 + 16n, or 64 + 4n if compact";
     DATA_TABLE_BELOW = 6, "data table below 32";
     DATA_TABLE_NOT_CELLS = 6, "data table not 16 + 16n";
     FIELD_TABLE_BELOW = 6, "field table below 32";
     FIELD_TABLE_NOT_CELLS = 6, "field table not 16 + 16n";
-    ARRAY_BELOW = 6, "array below 32";
-    ARRAY_NOT_ITEMS = 6, "array not 24 + 8n";
+    ARRAY_BELOW = 6, "array below 32, or 28 if compact";
+    ARRAY_NOT_ITEMS = 6, "array not 24 + 8n, or 24 + 4n if compact";
     TAG_NOT_64 = 6, "TAG not 64";
     FOREIGN_BELOW = 6, "type 8 and up below 16";
 
@@ -134,6 +134,8 @@ clauses! { APPEND_CLAUSES:
     TAIL_ARRAY = 14, "tail_entry_array_offset";
     TAIL_ARRAY_COUNT = 14, "tail_entry_array_n_entries";
     TAIL_ENTRY = 14, "tail_entry_offset";
+    DATA_TAIL_ARRAY = 14, "a DATA's tail_entry_array_offset";
+    DATA_TAIL_COUNT = 14, "a DATA's tail_entry_array_n_entries";
     DATA_CELL_TAIL = 14, "a data cell's tail";
     FIELD_CELL_TAIL = 14, "a field cell's tail";
     DATA_OFF_CHAIN = 14, "a DATA off its chain";

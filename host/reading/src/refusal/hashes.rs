@@ -24,7 +24,8 @@ pub fn eleven(image: &Image, found: &mut Vec<Clause>) {
     }
 }
 
-/// "a hash, item hash or xor_hash wrong": of all walked DATA, FIELD and ENTRY.
+/// "a hash, item hash or xor_hash wrong": of all walked DATA, FIELD and ENTRY. "11 has no item hash" in
+/// a compact file.
 fn hashes(image: &Image, found: &mut Vec<Clause>) {
     for object in image.of_kind(kind::DATA) {
         if image.word(object.offset + data::HASH) != image.hash(image.payload(&object)) {
@@ -41,7 +42,7 @@ fn hashes(image: &Image, found: &mut Vec<Clause>) {
         let mut xor_hash = 0;
         for (offset, hash) in image.entry_items(&object) {
             let payload = image.payload(&image.object_at(offset).expect("refusal 8 passed"));
-            if hash != image.hash(payload) {
+            if hash.is_some_and(|hash| hash != image.hash(payload)) {
                 found.push(ITEM_HASH);
             }
             xor_hash ^= hashlittle2(payload);

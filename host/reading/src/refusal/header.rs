@@ -1,7 +1,7 @@
 //! Refusals 1 to 5.
 use super::clause::*;
 use crate::image::{arena_end, le32, le64};
-use crate::layout::{header, HEADER_SIZES, MOST_BYTES, SIGNATURE};
+use crate::layout::{header, COMPACT, HEADER_SIZES, KEYED_HASH, MOST_BYTES, SIGNATURE};
 
 /// 1: "fewer than 256 bytes"
 pub fn one(bytes: &[u8], found: &mut Vec<Clause>) {
@@ -24,13 +24,11 @@ pub fn three(bytes: &[u8], found: &mut Vec<Clause>) {
     }
 }
 
-/// 4: "an incompatible bit other than bit 2"
+/// 4: "an incompatible bit other than bit 2", and "no longer for bit 4"
 pub fn four(bytes: &[u8], found: &mut Vec<Clause>) {
     let incompatible_flags = le32(bytes, header::INCOMPATIBLE_FLAGS);
-    for bit in 0..32 {
-        if bit != 2 && incompatible_flags >> bit & 1 == 1 {
-            found.push(INCOMPATIBLE_BIT);
-        }
+    if incompatible_flags & !(KEYED_HASH | COMPACT) != 0 {
+        found.push(INCOMPATIBLE_BIT);
     }
 }
 

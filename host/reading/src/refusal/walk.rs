@@ -1,7 +1,7 @@
 //! Refusal 6.
 use super::clause::*;
-use crate::image::{arena_end, first_object, le64, Object};
-use crate::layout::{header, kind};
+use crate::image::{arena_end, first_object, layout, le64, Object};
+use crate::layout::{array, entry, header, kind, Layout};
 
 /// 6: the walk from the header's end, "stopped once past tail_object_offset, misses it (0
 /// included); an object passes the arena's end; type 0; one of flag bits 0 to 2 set; a size wrong".
@@ -29,7 +29,7 @@ pub fn six(bytes: &[u8], found: &mut Vec<Clause>) {
             return;
         }
         let object = Object::read(bytes, offset);
-        judge(&object, found);
+        judge(&object, layout(bytes), found);
         let next = object.next();
         if offset < tail_object_offset && (tail_object_offset as u128) < next {
             found.push(TAIL_IN_OBJECT);
@@ -47,8 +47,9 @@ pub fn six(bytes: &[u8], found: &mut Vec<Clause>) {
     }
 }
 
-/// Type, flags and size of one object.
-fn judge(object: &Object, found: &mut Vec<Clause>) {
+/// Type, flags and size of one object. "6 takes the compact sizes (DATA from 73, ENTRY from 68, array
+/// from 28)": each has room for one byte of payload, or one item.
+fn judge(object: &Object, layout: Layout, found: &mut Vec<Clause>) {
     if object.kind == 0 {
         found.push(TYPE_ZERO);
     }
@@ -65,11 +66,15 @@ fn judge(object: &Object, found: &mut Vec<Clause>) {
     };
     match object.kind {
         0 => {}
-        kind::DATA => wrong(size < 65, DATA_BELOW),
+        kind::DATA => wrong(size < layout.data_size(1), DATA_BELOW),
         kind::FIELD => wrong(size < 41, FIELD_BELOW),
         kind::ENTRY => {
-            wrong(size < 80, ENTRY_BELOW);
-            wrong(!is_head_and_parts(size, 64, 16), ENTRY_NOT_ITEMS);
+            let item = layout.entry_item();
+            wrong(size < layout.entry_size(1), ENTRY_BELOW);
+            wrong(
+                !is_head_and_parts(size, entry::ITEMS, item),
+                ENTRY_NOT_ITEMS,
+            );
         }
         kind::DATA_HASH_TABLE => {
             wrong(size < 32, DATA_TABLE_BELOW);
@@ -80,8 +85,12 @@ fn judge(object: &Object, found: &mut Vec<Clause>) {
             wrong(!is_head_and_parts(size, 16, 16), FIELD_TABLE_NOT_CELLS);
         }
         kind::ENTRY_ARRAY => {
-            wrong(size < 32, ARRAY_BELOW);
-            wrong(!is_head_and_parts(size, 24, 8), ARRAY_NOT_ITEMS);
+            let item = layout.array_item();
+            wrong(size < layout.array_size(1), ARRAY_BELOW);
+            wrong(
+                !is_head_and_parts(size, array::ITEMS, item),
+                ARRAY_NOT_ITEMS,
+            );
         }
         kind::TAG => wrong(size != 64, TAG_NOT_64),
         _ => wrong(size < 16, FOREIGN_BELOW),

@@ -1,5 +1,5 @@
 //! Mutations for refusal 9.
-use super::links::wrong_target;
+use super::links::wrong_item;
 use crate::generator::dice::{between, once_in, pick};
 use crate::generator::rendered::Rendered;
 use crate::random::Random;
@@ -30,18 +30,18 @@ pub fn mutate(clause: Clause, random: &mut Random, made: &mut Rendered) -> bool 
     }
     let any = random.below(n);
     match clause {
-        COMMITTED_ZERO => made.set(items[any], 0),
+        COMMITTED_ZERO => made.set_item(items[any], 0),
         COMMITTED_KIND => {
             let value = if once_in(random, 2) {
-                made.word(items[any]) + 8
+                made.item(items[any]) + 8
             } else {
-                wrong_target(random, made, kind::ENTRY)
+                wrong_item(random, made, kind::ENTRY)
             };
-            made.set(items[any], value);
+            made.set_item(items[any], value);
         }
         SEQNUM_ZERO => {
             let which = if once_in(random, 2) { 0 } else { any };
-            let at = made.word(items[which]) + entry::SEQNUM;
+            let at = made.item(items[which]) + entry::SEQNUM;
             made.set(at, 0);
         }
         _ => {
@@ -63,12 +63,12 @@ fn neighbours(
     at: u64,
     next_at: u64,
 ) -> bool {
-    let (one, next) = (made.word(at), made.word(next_at));
+    let (one, next) = (made.item(at), made.item(next_at));
     match clause {
-        OFFSETS_EQUAL => made.set(next_at, one),
+        OFFSETS_EQUAL => made.set_item(next_at, one),
         OFFSETS_FALLING => {
-            made.set(at, next);
-            made.set(next_at, one);
+            made.set_item(at, next);
+            made.set_item(next_at, one);
             if !once_in(random, 3) {
                 // The facts along the chain stay as they were, so that only the offsets fall.
                 for word in [16, 24, 32, 40, 48] {

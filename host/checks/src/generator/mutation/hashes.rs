@@ -6,7 +6,7 @@ use crate::generator::render::render;
 use crate::generator::rendered::{hash, Rendered};
 use crate::random::Random;
 use reading::image::name_of;
-use reading::layout::{data, entry, field};
+use reading::layout::{data, entry, field, Layout};
 use reading::refusal::clause::*;
 
 pub fn mutate(clause: Clause, random: &mut Random, made: &mut Rendered) -> bool {
@@ -32,7 +32,9 @@ fn words(clause: Clause, random: &mut Random, made: &mut Rendered) -> bool {
                 | (ITEM_HASH | XOR_HASH, Part::Entry(_))
         )
     });
-    if parts.is_empty() {
+    // "11 has no item hash there"
+    let hashless = clause == ITEM_HASH && made.draft.layout == Layout::Compact;
+    if parts.is_empty() || hashless {
         return false;
     }
     if clause == XOR_HASH && made.draft.keyed && once_in(random, 2) {

@@ -22,16 +22,27 @@ pub fn mutate(clause: Clause, random: &mut Random, made: &mut Rendered) -> bool 
         return true;
     }
     let (at, near) = match clause {
-        TAIL_ARRAY => (header::TAIL_ENTRY_ARRAY_OFFSET, chain(made)),
-        _ => (header::TAIL_ENTRY_ARRAY_N_ENTRIES, counts(made)),
+        TAIL_ARRAY => (
+            header::TAIL_ENTRY_ARRAY_OFFSET,
+            chain(made, made.draft.entry_array),
+        ),
+        _ => {
+            let at = header::TAIL_ENTRY_ARRAY_N_ENTRIES;
+            (at, counts(made, at, made.draft.committed.len() as u64))
+        }
     };
+    set_other(random, made, at, &near);
+    true
+}
+
+/// Another number of 32 bits at a place.
+pub fn set_other(random: &mut Random, made: &mut Rendered, at: u64, near: &[u64]) {
     let is = le32(&made.image, at) as u64;
     let mut value = is as u32;
     while value as u64 == is {
-        value = other(random, is, &near) as u32;
+        value = other(random, is, near) as u32;
     }
     made.set_half(at, value);
-    true
 }
 
 /// Another number: one of those near it, or one at an edge.
@@ -51,11 +62,10 @@ fn offsets(made: &Rendered, test: impl Fn(&Part) -> bool) -> Vec<u64> {
     parts.map(|part| made.offsets[part]).collect()
 }
 
-/// The arrays of the header's chain, those after the last committed item too; the first and the last
-/// once more.
-fn chain(made: &Rendered) -> Vec<u64> {
+/// The arrays of a chain, those after the last counted item too; the first and the last once more.
+pub fn chain(made: &Rendered, first: Option<usize>) -> Vec<u64> {
     let mut chain = Vec::new();
-    let mut next = made.draft.entry_array;
+    let mut next = first;
     while let Some(part) = next {
         chain.push(made.offsets[part]);
         next = match &made.draft.parts[part] {
@@ -68,14 +78,10 @@ fn chain(made: &Rendered) -> Vec<u64> {
     chain
 }
 
-/// All committed entries, the items of each array, and one off.
-fn counts(made: &Rendered) -> Vec<u64> {
-    let is = le32(&made.image, header::TAIL_ENTRY_ARRAY_N_ENTRIES) as u64;
-    let mut counts = vec![
-        is + 1,
-        is.wrapping_sub(1),
-        made.draft.committed.len() as u64,
-    ];
+/// All entries of a list, the items of each array, and one off.
+pub fn counts(made: &Rendered, at: u64, all: u64) -> Vec<u64> {
+    let is = le32(&made.image, at) as u64;
+    let mut counts = vec![is + 1, is.wrapping_sub(1), all, all.saturating_sub(1)];
     for part in &made.draft.parts {
         if let Part::Array(it) = part {
             counts.push(it.items.len() as u64);

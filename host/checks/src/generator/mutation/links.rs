@@ -4,7 +4,7 @@ use crate::generator::draft::Part;
 use crate::generator::rendered::Rendered;
 use crate::random::Random;
 use reading::image::Image;
-use reading::layout::{array, data, entry, field, header, kind, table};
+use reading::layout::{array, data, entry, field, header, kind, table, Layout};
 use reading::refusal::clause::*;
 
 pub fn mutate(clause: Clause, random: &mut Random, made: &mut Rendered) -> bool {
@@ -103,6 +103,19 @@ pub fn wrong_target(random: &mut Random, made: &Rendered, kind: u8) -> u64 {
     }
 }
 
+/// The same for an item, of which a compact file has the low 32 bits.
+pub fn wrong_item(random: &mut Random, made: &Rendered, kind: u8) -> u64 {
+    loop {
+        let value = match made.draft.layout {
+            Layout::Regular => wrong_target(random, made, kind),
+            Layout::Compact => wrong_target(random, made, kind) as u32 as u64,
+        };
+        if value != 0 && !Image::walked(&made.image).lands(value, kind) {
+            return value;
+        }
+    }
+}
+
 /// Items of an ENTRY, committed or not.
 fn items(clause: Clause, random: &mut Random, made: &mut Rendered) -> bool {
     let least = if matches!(clause, ITEMS_EQUAL | ITEMS_FALLING) {
@@ -119,30 +132,26 @@ fn items(clause: Clause, random: &mut Random, made: &mut Rendered) -> bool {
     let part = pick(random, &entries);
     let n = made.draft.entry(part).items.len();
     let first = made.offsets[part] + entry::ITEMS;
-    let at = first + 16 * random.below(n) as u64;
-    let pair = first + 16 * random.below(n.max(2) - 1) as u64;
+    let item = made.draft.layout.entry_item();
+    let at = first + item * random.below(n) as u64;
+    let pair = first + item * random.below(n.max(2) - 1) as u64;
     match clause {
-        ITEM_ZERO => made.set(at, 0),
+        ITEM_ZERO => made.set_item(at, 0),
         ITEM_KIND => {
-            let value = wrong_target(random, made, kind::DATA);
-            made.set(at, value);
+            let value = wrong_item(random, made, kind::DATA);
+            made.set_item(at, value);
         }
         ITEMS_EQUAL => {
             let (from, to) = if once_in(random, 2) {
-                (pair, pair + 16)
+                (pair, pair + item)
             } else {
-                (pair + 16, pair)
+                (pair + item, pair)
             };
-            let (offset, hash) = (made.word(from), made.word(from + 8));
-            made.set(to, offset);
-            made.set(to + 8, hash);
+            let (from, to) = (from as usize, to as usize);
+            made.image.copy_within(from..from + item as usize, to);
         }
         ITEMS_FALLING => {
-            for at in [pair, pair + 8] {
-                let (one, other) = (made.word(at), made.word(at + 16));
-                made.set(at, other);
-                made.set(at + 16, one);
-            }
+            made.image[pair as usize..(pair + 2 * item) as usize].rotate_left(item as usize);
         }
         _ => return false,
     }

@@ -24,7 +24,7 @@ pub fn mutate(clause: Clause, random: &mut Random, made: &mut Rendered) -> bool 
         .iter()
         .take(n_entries as usize)
         .copied()
-        .filter(|&at| made.word(at) <= last)
+        .filter(|&at| held(made, here, at) <= last)
         .collect();
     match clause {
         CHAIN_SHORT => made.set(
@@ -46,7 +46,7 @@ pub fn mutate(clause: Clause, random: &mut Random, made: &mut Rendered) -> bool 
                 return false;
             }
             let which = random.below(room as usize - 1) + 1;
-            made.set(places[which], 0);
+            made.set_item(places[which], 0);
             if which as u64 >= n_entries {
                 made.set(count, which as u64 + 1);
             }
@@ -66,7 +66,7 @@ pub fn mutate(clause: Clause, random: &mut Random, made: &mut Rendered) -> bool 
                 made.set(count, 1);
             } else if n_entries < room {
                 let between = last.saturating_sub(8);
-                made.set(
+                made.set_item(
                     places[n_entries as usize],
                     pick(random, &[entry, entry, between]),
                 );
@@ -85,15 +85,30 @@ pub fn mutate(clause: Clause, random: &mut Random, made: &mut Rendered) -> bool 
             } else {
                 listed.len() - 1
             };
-            let (one, other) = (made.word(listed[i]), made.word(listed[j]));
-            made.set(listed[j], one);
+            let (one, other) = (held(made, here, listed[i]), held(made, here, listed[j]));
+            hold(made, here, listed[j], one);
             if clause == LIST_ORDER {
-                made.set(listed[i], other);
+                hold(made, here, listed[i], other);
             }
         }
         _ => return false,
     }
     true
+}
+
+/// The offset at a place of a DATA's list: entry_offset is a word, and the others are items.
+fn held(made: &Rendered, here: u64, at: u64) -> u64 {
+    match at == here + data::ENTRY_OFFSET {
+        true => made.word(at),
+        false => made.item(at),
+    }
+}
+
+fn hold(made: &mut Rendered, here: u64, at: u64, value: u64) {
+    match at == here + data::ENTRY_OFFSET {
+        true => made.set(at, value),
+        false => made.set_item(at, value),
+    }
 }
 
 /// The places of a DATA's list (entry_offset and the items of its chain), the committed

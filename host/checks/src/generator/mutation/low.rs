@@ -47,9 +47,11 @@ pub fn mutate(clause: Clause, random: &mut Random, made: &mut Rendered) -> bool 
         SIGNATURE_DIFFERS => made.image[random.below(8)] ^= 1 << random.below(8),
         INCOMPATIBLE_BIT => {
             for _ in 0..between(random, 1, 3) {
-                let bit = pick(random, &[0, 1, 3, 4, 5, 6, 7, 8, 9, 16, 24, 30, 31]);
+                let bit = pick(random, &[0, 1, 3, 5, 6, 7, 8, 9, 12, 16, 20, 24, 28, 31]);
                 made.image[12 + bit / 8] |= 1 << (bit % 8);
             }
+            // The two bits that are known excuse no other.
+            made.image[12] ^= pick(random, &[0, 0, 4, 16, 20]);
         }
         HEADER_SIZE => {
             // With the arena shortened by what is added, the sum stays.

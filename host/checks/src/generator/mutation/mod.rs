@@ -11,6 +11,7 @@ mod low;
 mod noise;
 mod objects;
 mod tables;
+mod tails;
 mod untargeted;
 pub mod untidy;
 

@@ -1,8 +1,8 @@
 //! Untargeted mutations: bytes and words anywhere, and inputs that are no journal.
 use crate::generator::dice::{between, edge, once_in, pick};
 use crate::random::Random;
-use reading::image::{arena_end, le64};
-use reading::layout::{header, HEADER_SIZES, SIGNATURE};
+use reading::image::{arena_end, le32, le64};
+use reading::layout::{header, COMPACT, HEADER_SIZES, SIGNATURE};
 
 /// Puts a word at an edge of what was there, or an offset of some object, at a random place.
 pub fn word(random: &mut Random, offsets: &[u64], image: &mut [u8]) {
@@ -17,6 +17,28 @@ pub fn word(random: &mut Random, offsets: &[u64], image: &mut [u8]) {
         edge(random, near)
     };
     image[at as usize..at as usize + 8].copy_from_slice(&value.to_le_bytes());
+}
+
+/// The same with a number of 32 bits.
+pub fn half(random: &mut Random, offsets: &[u64], image: &mut [u8]) {
+    if image.len() < 8 {
+        return;
+    }
+    let at = place(random, image) + pick(random, &[0, 4]);
+    let near = le32(image, at).into();
+    let value = if once_in(random, 3) {
+        pick(random, offsets)
+    } else {
+        edge(random, near)
+    };
+    image[at as usize..at as usize + 4].copy_from_slice(&(value as u32).to_le_bytes());
+}
+
+/// Calls a regular image compact, or a compact one regular.
+pub fn layout(image: &mut [u8]) {
+    if let Some(flags) = image.get_mut(header::INCOMPATIBLE_FLAGS as usize) {
+        *flags ^= COMPACT as u8;
+    }
 }
 
 /// A multiple of 8, often in the header.
@@ -86,6 +108,7 @@ pub fn no_journal(random: &mut Random) -> Vec<u8> {
     if length >= 256 && !once_in(random, 3) {
         image[0..8].copy_from_slice(&SIGNATURE);
         image[12..16].fill(0);
+        image[12] = pick(random, &[0, 4, 16, 20]);
         if once_in(random, 2) {
             let header_size = pick(random, &HEADER_SIZES);
             image[88..96].copy_from_slice(&header_size.to_le_bytes());

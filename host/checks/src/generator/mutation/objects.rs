@@ -3,7 +3,7 @@ use crate::generator::dice::{between, once_in, pick};
 use crate::generator::rendered::Rendered;
 use crate::random::Random;
 use reading::image::{Image, Object};
-use reading::layout::{header, kind};
+use reading::layout::{header, kind, Layout};
 use reading::refusal::clause::*;
 
 pub fn mutate(clause: Clause, random: &mut Random, made: &mut Rendered) -> bool {
@@ -99,19 +99,25 @@ fn passes(random: &mut Random, made: &mut Rendered, objects: &[Object]) {
 }
 
 /// The kinds and wrong sizes of the clauses on sizes.
-fn sizes(clause: Clause, random: &mut Random) -> Option<(u8, u64)> {
+fn sizes(clause: Clause, layout: Layout, random: &mut Random) -> Option<(u8, u64)> {
+    let compact = layout == Layout::Compact;
     let foreign = between(random, 8, 255) as u8;
     let odd = between(random, 1, 15);
     let small = between(random, 1, 7);
     let (kind, sizes): (u8, Vec<u64>) = match clause {
+        DATA_BELOW if compact => (kind::DATA, vec![0, 16, 64, 65, 71, 72]),
         DATA_BELOW => (kind::DATA, vec![0, 16, 63, 64]),
         FIELD_BELOW => (kind::FIELD, vec![0, 16, 39, 40]),
+        ENTRY_BELOW if compact => (kind::ENTRY, vec![0, 16, 60, 63, 64, 65, 67]),
+        ENTRY_NOT_ITEMS if compact => (kind::ENTRY, vec![69, 70, 71, 73, 79, 81, 82, 83]),
         ENTRY_BELOW => (kind::ENTRY, vec![0, 16, 63, 64, 72, 79]),
         ENTRY_NOT_ITEMS => (kind::ENTRY, vec![80 + odd, 88, 81, 95]),
         DATA_TABLE_BELOW => (kind::DATA_HASH_TABLE, vec![0, 8, 15, 16, 24, 31]),
         DATA_TABLE_NOT_CELLS => (kind::DATA_HASH_TABLE, vec![32 + odd, 40, 33, 47]),
         FIELD_TABLE_BELOW => (kind::FIELD_HASH_TABLE, vec![0, 8, 15, 16, 24, 31]),
         FIELD_TABLE_NOT_CELLS => (kind::FIELD_HASH_TABLE, vec![32 + odd, 40, 33, 47]),
+        ARRAY_BELOW if compact => (kind::ENTRY_ARRAY, vec![0, 8, 16, 20, 23, 24, 25, 27]),
+        ARRAY_NOT_ITEMS if compact => (kind::ENTRY_ARRAY, vec![29, 30, 31, 33, 34, 39]),
         ARRAY_BELOW => (kind::ENTRY_ARRAY, vec![0, 8, 16, 23, 24, 31]),
         ARRAY_NOT_ITEMS => (kind::ENTRY_ARRAY, vec![32 + small, 33, 39]),
         TAG_NOT_64 => (kind::TAG, vec![0, 16, 32, 56, 63, 65, 71, 72, 80]),
@@ -129,7 +135,7 @@ fn wrong_size(
     made: &mut Rendered,
     objects: &[Object],
 ) -> bool {
-    let Some((kind, size)) = sizes(clause, random) else {
+    let Some((kind, size)) = sizes(clause, made.draft.layout, random) else {
         return false;
     };
     let of_kind: Vec<Object> = objects

@@ -1,7 +1,7 @@
 //! Mutations for refusal 7.
 use crate::generator::dice::{between, edge, once_in, pick};
 use crate::generator::draft::Part;
-use crate::generator::rendered::Rendered;
+use crate::generator::rendered::{size, Rendered};
 use crate::random::Random;
 use reading::layout::{header, kind};
 use reading::refusal::clause::*;
@@ -40,9 +40,13 @@ fn first_two(random: &mut Random, made: &mut Rendered) {
     }
 }
 
-/// An ENTRY has the size of a table of more cells; the tail object can be cut to one.
+/// An ENTRY has the size of a table of more cells, in a compact file with every fourth number of items;
+/// the tail object can be cut to one.
 fn later(random: &mut Random, made: &mut Rendered, kind: u8) -> bool {
-    let entries = made.draft.in_order(|part| matches!(part, Part::Entry(_)));
+    let layout = made.draft.layout;
+    let entries = made
+        .draft
+        .in_order(|part| matches!(part, Part::Entry(_)) && size(layout, part) % 16 == 0);
     if !entries.is_empty() && once_in(random, 2) {
         let entry = pick(random, &entries);
         made.set_byte(made.offsets[entry], kind);

@@ -53,6 +53,8 @@ fn several(random: &mut Random, offsets: &[u64], mut image: Vec<u8>, times: u64)
                 image.truncate(between(random, 0, image.len() as u64) as usize)
             }
             4 if once_in(random, 4) => noise::header_size(random, &mut image),
+            4 if once_in(random, 6) => noise::layout(&mut image),
+            5 => noise::half(random, offsets, &mut image),
             _ => noise::word(random, offsets, &mut image),
         }
     }

@@ -1,5 +1,5 @@
 //! Mutations for refusals 12 to 14 and 25, which leave the image open.
-use super::late;
+use super::{late, tails};
 use crate::generator::dice::{between, edge, once_in, pick};
 use crate::generator::draft::{Array, Data, Draft, Entry, Field, Item, Part};
 use crate::generator::render::render;
@@ -33,6 +33,7 @@ pub fn mutate(clause: Clause, random: &mut Random, made: &mut Rendered) -> bool 
             return true;
         }
         TAIL_ARRAY | TAIL_ARRAY_COUNT | TAIL_ENTRY => return late::mutate(clause, random, made),
+        DATA_TAIL_ARRAY | DATA_TAIL_COUNT => return tails::mutate(clause, random, made),
         NOT_OFFLINE => {
             made.set_byte(header::STATE, pick(random, &[1, 2, 128, 255]));
             return true;
