@@ -2,7 +2,7 @@
 //! stores.
 use checks::corpus;
 use checks::generator::any::any;
-use checks::generator::draft::{Array, Data, Draft, Entry, Field, Item, Part};
+use checks::generator::draft::{numbered, Array, Data, Draft, Field, Item, Part};
 use checks::generator::pairs::pair;
 use checks::generator::render::render;
 use checks::random::Random;
@@ -128,15 +128,8 @@ fn many_items(entries: usize, items: usize) -> Vec<u8> {
                 .collect(),
         }));
     }
-    for n in 1..=entries as u64 {
-        parts.push(Part::Entry(Entry {
-            seqnum: n,
-            realtime: n,
-            monotonic: n,
-            boot_id: [5; 16],
-            items: (0..items).collect(),
-        }));
-    }
+    let all: Vec<usize> = (0..items).collect();
+    parts.extend(numbered(entries, [5; 16], &all));
     let draft = Draft {
         layout: Layout::Compact,
         data_cells: 64,

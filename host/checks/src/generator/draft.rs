@@ -75,6 +75,23 @@ pub struct Entry {
     pub items: Vec<usize>,
 }
 
+/// ENTRYs with the numbers from 1 on, which are their times too, of one boot and with the same DATA.
+pub fn numbered(
+    count: usize,
+    boot_id: [u8; 16],
+    items: &[usize],
+) -> impl Iterator<Item = Part> + '_ {
+    (1..=count as u64).map(move |n| {
+        Part::Entry(Entry {
+            seqnum: n,
+            realtime: n,
+            monotonic: n,
+            boot_id,
+            items: items.to_vec(),
+        })
+    })
+}
+
 #[derive(Clone)]
 pub struct Array {
     pub next: Option<usize>,

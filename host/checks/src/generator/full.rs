@@ -1,5 +1,5 @@
 //! Images whose chains of arrays have no spare item.
-use super::draft::{Array, Data, Draft, Entry, Field, Item, Part};
+use super::draft::{numbered, Array, Data, Draft, Field, Item, Part};
 use super::render::render;
 use crate::random::Random;
 use reading::layout::Layout;
@@ -56,15 +56,7 @@ pub fn full_in(
             }));
         }
     }
-    for number in 1..=count as u64 {
-        parts.push(Part::Entry(Entry {
-            seqnum: number,
-            realtime: number,
-            monotonic: number,
-            boot_id: [0; 16],
-            items: vec![0],
-        }));
-    }
+    parts.extend(numbered(count, [0; 16], &[0]));
     let draft = Draft {
         header_size,
         layout,

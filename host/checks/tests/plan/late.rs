@@ -1,5 +1,5 @@
 //! The header's late fields: what 14 wants of them, and what an append stores.
-use checks::generator::draft::{Array, Data, Draft, Entry, Field, Item, Part};
+use checks::generator::draft::{numbered, Array, Data, Draft, Field, Item, Part};
 use checks::generator::frame::set;
 use checks::generator::render::render;
 use checks::generator::worked::request;
@@ -52,15 +52,7 @@ fn ahead(header_size: u64, entries: usize, compatible_flags: u32) -> (Vec<u8>, [
         array(None, 1..9),
     ];
     assert_eq!(SIZES, [2, 1, 3]);
-    for n in 1..=entries as u64 {
-        parts.push(Part::Entry(Entry {
-            seqnum: n,
-            realtime: n,
-            monotonic: n,
-            boot_id: [5; 16],
-            items: vec![0],
-        }));
-    }
+    parts.extend(numbered(entries, [5; 16], &[0]));
     let draft = Draft {
         header_size,
         compatible_flags,

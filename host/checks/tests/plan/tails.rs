@@ -1,5 +1,5 @@
 //! The tail fields of a DATA in a compact file: what 14 wants of them, and what an append stores.
-use checks::generator::draft::{Array, Data, Draft, Entry, Field, Item, Part};
+use checks::generator::draft::{numbered, Array, Data, Draft, Field, Item, Part};
 use checks::generator::frame::set;
 use checks::generator::render::render;
 use checks::generator::worked::request;
@@ -55,15 +55,7 @@ fn ahead(header_size: u64, entries: usize) -> (Vec<u8>, u64, [u32; 4]) {
         array(None, 4..7),
         array(None, 0..9),
     ];
-    for n in 1..=entries as u64 {
-        parts.push(Part::Entry(Entry {
-            seqnum: n,
-            realtime: n,
-            monotonic: n,
-            boot_id: [5; 16],
-            items: vec![0],
-        }));
-    }
+    parts.extend(numbered(entries, [5; 16], &[0]));
     let draft = Draft {
         header_size,
         layout: Layout::Compact,
