@@ -12,9 +12,9 @@ use Rattle.format.proofs.StoreLists.{Each, each-all, length-carryAll, carry-tak
 use Rattle.format.proofs.Cuts.{Fit, cut-taken, cut-carried}
 use Rattle.format.proofs.CarryAgain.{carry-again}
 use Rattle.writing.specs.Request.{Request}
-use Rattle.writing.specs.Plan.{storesOf, need}
+use Rattle.writing.specs.Plan.{storesOf, need, appended}
 use Rattle.writing.specs.Refusal.{appendRefusal, plannedList}
-use Rattle.crash_states.specs.Demand.{Given, appended, cut}
+use Rattle.crash_states.specs.Demand.{Given, cut}
 use Rattle.crash_states.specs.Redo.{Redo, RedoCut}
 use Rattle.crash_states.proofs.Accepted.{Accepted}
 use Rattle.crash_states.proofs.AcceptedFrom.{accepted, list-long}

@@ -134,7 +134,7 @@ module _ (img : Image) (r : Request) (a : Accepted img r) where
       ∙ sym (ends-group 0 (onlineGroup F ++ (objectGroup F r ++ [])) groups3 (omega arith))
 
 -- of any list that holds stores of 64-bit numbers and no more, all are read
-list-points : (ss : List Store) → Each Wide ss → listPoints (storeBytes ss) ≡ syncPoints ss
+pub list-points : (ss : List Store) → Each Wide ss → listPoints (storeBytes ss) ≡ syncPoints ss
 unfolding listPoints
 list-points ss w =
     let n : length (storeBytes ss) / 16 ≡ length ss = omega (arith, length-storeBytes ss) in

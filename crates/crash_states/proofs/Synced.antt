@@ -18,23 +18,23 @@ use Rattle.crash_states.proofs.Demands.{AnyOrder, early, order7}
 use Rattle.crash_states.proofs.SharedSyncs.{shows-1-2, shows-5-6}
 
 -- two groups, one after the other
-both-in-turn : (g h : List Store) → inTurn (g ∷ h ∷ []) ≡ g ++ h
+pub both-in-turn : (g h : List Store) → inTurn (g ∷ h ∷ []) ≡ g ++ h
 unfolding inTurn
 both-in-turn g h = ap (λ (l : List Store). g ++ l) (append-nil h)
 
 -- a group alone
-one-in-turn : (g : List Store) → inTurn (g ∷ []) ≡ g
+pub one-in-turn : (g : List Store) → inTurn (g ∷ []) ≡ g
 unfolding inTurn
 one-in-turn g = append-nil g
 
 module _ (img : Image) (r : Request) (a : Accepted img r) where
   -- the groups by their syncs
-  abbrev six : List (List Store)
+  abbrev pub six : List (List Store)
   six =
       (onlineGroup (model img) ++ objectGroup (model img) r) ∷ counterGroup (model img) r ∷ linkGroup (model img) r
       ∷ (countGroup (model img) r ++ factGroup (model img) r) ∷ commitGroup (model img) ∷ offlineGroup (model img) ∷ []
 
-  six-are : synced (groups (model img) r) ≡ six
+  pub six-are : synced (groups (model img) r) ≡ six
   unfolding synced together groups
   six-are =
       rw (
@@ -53,7 +53,7 @@ module _ (img : Image) (r : Request) (a : Accepted img r) where
       early img r a from (g ++ h) k l gs shows (subst (λ (i : Image). AnyOrder img r a i (k ∷ l ∷ gs)) (sym (carryAll-append g h from)) later)
 
   -- what some stores of each leave, behind all of those before it
-  in-six : AnyOrder img r a img six
+  pub in-six : AnyOrder img r a img six
   unfolding after1 after2 after3 after4 after5 after6
   in-six =
       shared img (onlineGroup (model img)) (objectGroup (model img) r) _ _ _ (shows-1-2 img r a)

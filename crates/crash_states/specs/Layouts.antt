@@ -11,10 +11,10 @@ use Rattle.format.specs.Stores.{carryRefusal, carried}
 use Rattle.reading.specs.Refusal.{refusal}
 use Rattle.reading.specs.View.{view}
 use Rattle.writing.specs.Request.{Request}
-use Rattle.writing.specs.Plan.{need}
+use Rattle.writing.specs.Plan.{need, appended}
 use Rattle.writing.specs.Refusal.{appendRefusal, plannedList}
 use Rattle.writing.specs.Shown.{withEntry}
-use Rattle.crash_states.specs.Demand.{Given, appended, answersAs, Stands, newEntry}
+use Rattle.crash_states.specs.Demand.{Given, answersAs, Stands, newEntry}
 
 -- what an accepted append does, and what each cut of it leaves
 pub record Keeps (img : Image) (r : Request) (list : List ℕ) : Type 0 where

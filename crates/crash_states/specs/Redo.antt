@@ -7,9 +7,9 @@ use lib.ListN.{length}
 use Rattle.format.specs.Header.{Image}
 use Rattle.format.specs.Stores.{Store, carryAll, carryRefusal, carried}
 use Rattle.writing.specs.Request.{Request}
-use Rattle.writing.specs.Plan.{storesOf, need}
+use Rattle.writing.specs.Plan.{storesOf, need, appended}
 use Rattle.writing.specs.Refusal.{appendRefusal, plannedList}
-use Rattle.crash_states.specs.Demand.{Given, appended, cut, SomeOf}
+use Rattle.crash_states.specs.Demand.{Given, cut, SomeOf}
 
 -- of any stores of the list, in any order and as often as one likes, not even group by group
 abbrev pub Redo : Type 0

@@ -5,3 +5,4 @@ pub mod LongHeader
 pub mod Compact
 pub mod Streams
 pub mod Syncs
+pub mod Batches

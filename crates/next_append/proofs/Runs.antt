@@ -8,16 +8,17 @@ use Rattle.format.specs.Header.{Image}
 use Rattle.format.specs.File.{model}
 use Rattle.reading.specs.View.{Shown, View, view}
 use Rattle.writing.specs.NewFile.{made}
-use Rattle.writing.specs.Plan.{need}
+use Rattle.writing.specs.Plan.{need, appended}
 use Rattle.writing.specs.Request.{Request}
 use Rattle.writing.specs.Shown.{withEntry}
-use Rattle.crash_states.specs.Demand.{appended, cut, newEntry}
+use Rattle.crash_states.specs.Demand.{cut, newEntry}
 use Rattle.crash_states.proofs.AcceptedFrom.{accepted}
 use Rattle.crash_states.proofs.Demands.{demand2, all-carried}
 use Rattle.crash_states.proofs.ListCuts.{list-carried}
-use Rattle.next_append.specs.Next.{TakesAppends, CallsAppend, showsNothing, appendedAll, AcceptsAll, newEntries, withEntries, Run, RunOnNew}
+use Rattle.next_append.specs.Next.{TakesAppends, CallsAppend, showsNothing, AcceptsAll, newEntries, withEntries, Run, RunOnNew}
 use Rattle.next_append.proofs.TakesAgain.{again}
 use Rattle.next_append.proofs.NewTakes.{new}
+use Rattle.writing.specs.Batch.{appendedAll}
 
 -- what the calls leave
 pub calls-append : CallsAppend

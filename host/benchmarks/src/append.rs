@@ -1,5 +1,6 @@
-//! Working out an append to a file of the greatest length, against opening it; and a new file and
-//! carrying out, against plain Rust.
+//! Working out an append to a file of the greatest length, against opening it, and a batch; and a new file
+//! and carrying out, against plain Rust.
+use crate::batch::batches;
 use crate::open::{facts, full_but, payloads, Full};
 use crate::timing::{heading, measure_long, measure_ratio, row};
 use checks::random::Random;
@@ -15,16 +16,22 @@ pub fn append() {
         "{:<44} {:>8} {:>14} {:>14} {:>10}",
         "plan", "stores", "plan ns", "open ns", "openings"
     );
-    for keyed in [false, true] {
-        for data_cells in [4_095, 65_536] {
-            let full = full_but(keyed, data_cells, 65_536);
-            // An entry such as the file has, and one of as many new payloads as an entry may have.
-            let as_logged = payloads(&mut Random::new(9), 1_000_000);
-            let new = (0..64).map(|n| format!("FIELD{}=a new value {n}", n % 9).into_bytes());
-            plan("as logged", &full, &as_logged);
-            plan("64 new payloads", &full, &new.collect::<Vec<_>>());
-        }
+    let kinds = [
+        (false, 4_095),
+        (false, 65_536),
+        (true, 4_095),
+        (true, 65_536),
+    ];
+    let full = kinds.map(|(keyed, data_cells)| full_but(keyed, data_cells, 65_536));
+    // An entry such as the file has, and one of as many new payloads as an entry may have.
+    let as_logged = payloads(&mut Random::new(9), 1_000_000);
+    let new = (0..64).map(|n| format!("FIELD{}=a new value {n}", n % 9).into_bytes());
+    let new: Vec<Vec<u8>> = new.collect();
+    for full in &full {
+        plan("as logged", full, &as_logged);
+        plan("64 new payloads", full, &new);
     }
+    batches(&full);
     new_files();
     carried();
 }

@@ -1,10 +1,11 @@
 //! Times the archive against plain Rust: `cargo run --offline --release -p benchmarks`.
-//! Sections are `hashes`, `frame`, `open`, `compact`, `append`, `lookups`, `listing`, `merged` and `hostile`;
-//! with their names only those are run.
+//! Sections are `hashes`, `frame`, `open`, `compact`, `append`, `tray`, `lookups`, `listing`, `merged` and
+//! `hostile`; with their names only those are run.
 //!
 //! A ratio of 1.0 or more means that the archive is at least as fast as plain Rust.
 mod append;
 mod asked;
+mod batch;
 mod builder;
 mod compact;
 mod frame;
@@ -18,6 +19,7 @@ mod open;
 mod plain;
 mod process;
 mod timing;
+mod tray;
 
 use checks::random::Random;
 use reading::lookup3::hashlittle2;
@@ -28,12 +30,13 @@ use wrapper::raw;
 
 fn main() {
     let asked: Vec<String> = std::env::args().skip(1).collect();
-    let sections: [(&str, fn()); 9] = [
+    let sections: [(&str, fn()); 10] = [
         ("hashes", hashes),
         ("frame", frame::frame),
         ("open", open::open),
         ("compact", compact::compact),
         ("append", append::append),
+        ("tray", tray::tray),
         ("lookups", lookups::lookups),
         ("listing", listing::listing),
         ("merged", merged::merged),

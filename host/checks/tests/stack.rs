@@ -1,13 +1,29 @@
 //! Every call that reads an image does with the stack that `docs/HOST.md` names. With too little of it
 //! the whole test ends.
-use checks::generator::worked::{first, second, two_appends};
-use wrapper::{Offset, Planned, Request, Which};
+use checks::generator::worked::{first, request, second, two_appends};
+use reading::batch::packed;
+use wrapper::{Offset, Planned, PlannedBatch, Request, Which};
 
-/// "1.3 MiB of stack"
-const STACK: usize = 13 * (1 << 20) / 10;
+/// "1.3 MiB of stack for each call"
+const READING: usize = 13 * MIB / 10;
 
-/// Makes a file, appends to it twice, and asks every lookup.
-fn all_calls(keyed: bool) {
+/// "1.4 for `journal_plan`"
+const PLAN: usize = 14 * MIB / 10;
+
+/// "1.6 for `journal_plan_batch`"
+const BATCH: usize = 16 * MIB / 10;
+
+const MIB: usize = 1 << 20;
+
+/// Makes calls in a thread with so much stack.
+fn within<T: Send + 'static>(stack: usize, calls: impl FnOnce() -> T + Send + 'static) -> T {
+    let thread = std::thread::Builder::new().stack_size(stack);
+    let thread = thread.spawn(calls).expect("a thread");
+    thread.join().expect("every call ends well")
+}
+
+/// Makes a file and appends to it twice.
+fn appends(keyed: bool) -> Vec<u8> {
     let mut image = vec![0; 65_536];
     let mut list = [0; 16 * 100];
     assert_eq!(wrapper::new(&mut image, &[2; 64], 1, 1, keyed, 256), Ok(()));
@@ -26,32 +42,50 @@ fn all_calls(keyed: bool) {
         assert_eq!(wrapper::sync_points(&list[..16 * count as usize]).len(), 6);
         assert_eq!(wrapper::carry_out(&mut image, &list, count), Ok(()));
     }
-    assert_eq!(wrapper::open(&image), Ok(()));
-    let entry = wrapper::entry(&image, 1)
+    image
+}
+
+/// Plans a batch of the same, and one of 32 entries.
+fn batches(image: &[u8]) {
+    let mut list = vec![0; 16 * 4_000];
+    let (first, second) = (first(), second());
+    let few = vec![request(&first, 3, 3, 3), request(&second, 4, 4, 4)];
+    let many = (3..35).map(|n| request(&first, n, n, n)).collect();
+    for asked in [few, many] {
+        let batch = wrapper::plan_batch(image, &[2; 16], &packed(&asked), &mut list);
+        assert!(matches!(batch, PlannedBatch::Stores { .. }));
+    }
+}
+
+/// Asks every lookup.
+fn lookups(image: &[u8]) {
+    assert_eq!(wrapper::open(image), Ok(()));
+    let entry = wrapper::entry(image, 1)
         .expect("it opens")
         .expect("an entry");
-    assert_eq!(wrapper::by_seqnum(&image, 2), Ok(Some(entry)));
-    assert_eq!(wrapper::by_realtime(&image, 2), Ok(Some(entry)));
+    assert_eq!(wrapper::by_seqnum(image, 2), Ok(Some(entry)));
+    assert_eq!(wrapper::by_realtime(image, 2), Ok(Some(entry)));
     assert_eq!(
-        wrapper::by_payload(&image, b"PRIORITY=2", 1),
+        wrapper::by_payload(image, b"PRIORITY=2", 1),
         Ok(Some(entry))
     );
-    let stamps = wrapper::stamps(&image, entry)
+    let stamps = wrapper::stamps(image, entry)
         .expect("it opens")
         .expect("an entry");
     assert_eq!(stamps.seqnum, 2);
-    let payload = wrapper::item(&image, entry, 0);
+    let payload = wrapper::item(image, entry, 0);
     assert_eq!(payload, Some(&b"PRIORITY=2"[..]));
-    assert_eq!(wrapper::value(&image, b"PRIORITY", 0), payload);
-    assert_eq!(wrapper::foreign(&image, 0), Ok(None));
+    assert_eq!(wrapper::value(image, b"PRIORITY", 0), payload);
+    assert_eq!(wrapper::foreign(image, 0), Ok(None));
 }
 
 #[test]
 fn a_small_stack() {
     for keyed in [false, true] {
-        let thread = std::thread::Builder::new().stack_size(STACK);
-        let calls = thread.spawn(move || all_calls(keyed)).expect("a thread");
-        calls.join().expect("every call ends well");
+        let image = within(PLAN, move || appends(keyed));
+        let planned = image.clone();
+        within(BATCH, move || batches(&planned));
+        within(READING, move || lookups(&image));
     }
 }
 
@@ -70,7 +104,5 @@ fn calls_on_two() {
 
 #[test]
 fn a_small_stack_for_two_images() {
-    let thread = std::thread::Builder::new().stack_size(STACK);
-    let calls = thread.spawn(calls_on_two).expect("a thread");
-    calls.join().expect("every call ends well");
+    within(READING, calls_on_two);
 }

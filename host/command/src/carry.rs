@@ -37,22 +37,53 @@ pub fn has_length(path: &Path, file: &File, image: &[u8]) -> Result<(), Fault> {
     }
 }
 
-/// Carries the stores out; the number of syncs.
-pub fn out(path: &Path, mapped: &mut Mapped, list: &[u8]) -> Result<usize, Fault> {
-    let parts = between_syncs(list);
+/// Carries the stores out with a sync at each place that the library says; the number of syncs.
+pub fn at_places(path: &Path, mapped: &mut Mapped, list: &[u8]) -> Result<usize, Fault> {
+    in_parts(path, mapped, &between_syncs(list))
+}
+
+/// The same with one sync, behind the last store.
+pub fn at_the_end(path: &Path, mapped: &mut Mapped, list: &[u8]) -> Result<usize, Fault> {
+    in_parts(path, mapped, &[list])
+}
+
+fn in_parts(path: &Path, mapped: &mut Mapped, parts: &[&[u8]]) -> Result<usize, Fault> {
     for (part, n) in parts.iter().zip(1..) {
-        wrapper::carry_out(mapped.bytes(), part, part.len() as u64 / 16)
-            .map_err(|refusal| Fault::refused(path, refusal))?;
+        all(path, mapped, part)?;
         mapped.sync().map_err(|error| {
-            // The last part is state 0, the one before it the commit store.
-            let entry = match parts.len() - n {
-                0 => "; the entry is on the disk",
-                1 => "; the entry may be on the disk or not",
-                _ => "",
-            };
             let sync = format!("sync {n} of {} failed: {}", parts.len(), said(&error));
-            Fault::of(path, format!("{sync}; the append stops there{entry}"))
+            let entries = on_the_disk(parts, n);
+            Fault::of(path, format!("{sync}; the append stops there{entries}"))
         })?;
     }
     Ok(parts.len())
+}
+
+/// Carries all stores of a list out, without a sync.
+pub fn all(path: &Path, mapped: &mut Mapped, list: &[u8]) -> Result<(), Fault> {
+    wrapper::carry_out(mapped.bytes(), list, list.len() as u64 / 16)
+        .map_err(|refusal| Fault::refused(path, refusal))
+}
+
+/// Where the header has n_entries: the store there commits an entry.
+pub const N_ENTRIES: u64 = 152;
+
+/// What is known of the entries where the sync behind the n-th part failed; to follow other words.
+fn on_the_disk(parts: &[&[u8]], n: usize) -> String {
+    let commits = |parts: &[&[u8]]| {
+        let stores = parts.iter().flat_map(|part| part.chunks_exact(16));
+        let commits = stores.filter(|store| store[..8] == N_ENTRIES.to_le_bytes());
+        commits.count()
+    };
+    let (before, all) = (commits(&parts[..n - 1]), commits(parts));
+    match (before, commits(&parts[n - 1..n]), all) {
+        (0, 0, _) => String::new(),
+        (1, _, 1) => "; the entry is on the disk".to_string(),
+        (0, _, 1) => "; the entry may be on the disk or not".to_string(),
+        (0, _, _) => format!("; of its {all} entries some may be on the disk"),
+        (_, 0, _) => format!("; of its {all} entries the first {before} are on the disk"),
+        _ => format!(
+            "; of its {all} entries the first {before} are on the disk, and the next may be"
+        ),
+    }
 }

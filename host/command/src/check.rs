@@ -1,6 +1,7 @@
 //! `check`: whether a file can be read, whether it takes appends, how much room is left in it, what
-//! its header is, and what was walked over.
+//! its header is, what was walked over, and a redo list beside it.
 use crate::fault::Fault;
+use crate::files::PATIENCE;
 use crate::text::counted;
 use crate::{files, foreign, ids};
 use std::io::Write;
@@ -8,7 +9,7 @@ use std::path::Path;
 use wrapper::{BootMeaning, Entry, Planned, Refusal, Request};
 
 pub fn check(file: &Path, out: &mut impl Write) -> Result<(), Fault> {
-    let image = files::read(file)?;
+    let (image, redo) = files::read_within(file, PATIENCE)?;
     let refused = |refusal| Fault::refused(file, refusal);
     let entries = wrapper::all_entries(&image).map_err(refused)?;
     let count = counted(entries.len(), "entry", "entries");
@@ -20,8 +21,12 @@ pub fn check(file: &Path, out: &mut impl Write) -> Result<(), Fault> {
     let room = room.words(entries.len() as u64);
     let header = header(&image).map_err(refused)?;
     let foreign = foreign::words(&image).map_err(refused)?;
-    let foreign = foreign.map_or(String::new(), |words| format!("{words}\n"));
-    let lines = format!("opens, {count}\n{appends}\n{room}\n{header}\n{foreign}");
+    let more: String = [foreign, redo]
+        .into_iter()
+        .flatten()
+        .map(|words| words + "\n")
+        .collect();
+    let lines = format!("opens, {count}\n{appends}\n{room}\n{header}\n{more}");
     out.write_all(lines.as_bytes()).map_err(Fault::answer)
 }
 

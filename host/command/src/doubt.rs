@@ -1,7 +1,7 @@
 //! Stamps that the rules take and that are hardly meant: journalctl does not show them, or they are
 //! far in the future, after which no right time can follow in the file.
-use crate::append::Wish;
 use crate::fault::Fault;
+use crate::stamps::Wished;
 use crate::{ids, system, times};
 use std::path::Path;
 use std::time::{SystemTime, UNIX_EPOCH};
@@ -13,8 +13,8 @@ const LATEST: u64 = 1 << 55;
 const DAY: u64 = 86_400_000_000;
 
 /// What is the matter with the stamps of an append, unless it is wanted anyway.
-pub fn none(path: &Path, wish: &Wish, request: &Request) -> Result<(), Fault> {
-    let why = if wish.anyway { None } else { why(request) };
+pub fn none(path: &Path, wished: &Wished, request: &Request) -> Result<(), Fault> {
+    let why = if wished.anyway { None } else { why(request) };
     why.map_or(Ok(()), |why| Err(Fault::doubtful(path, why)))
 }
 

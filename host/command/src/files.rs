@@ -4,6 +4,7 @@
 //! has half of an append. Each waits a little for the others and then gives up. Programs that do
 //! not go by this lock, as journald, are not seen.
 use crate::fault::Fault;
+use crate::settle;
 use std::fs::{File, Metadata, OpenOptions, TryLockError};
 use std::io::Read;
 use std::os::unix::fs::MetadataExt;
@@ -15,13 +16,13 @@ use wrapper::LONGEST_IMAGE;
 pub const PATIENCE: Duration = Duration::from_secs(2);
 const BETWEEN: Duration = Duration::from_millis(10);
 
-/// The image in a file, to look at.
+/// The image in a file, to look at; with all of a batch that was cut off and has its redo list.
 pub fn read(path: &Path) -> Result<Vec<u8>, Fault> {
-    read_within(path, PATIENCE)
+    Ok(read_within(path, PATIENCE)?.0)
 }
 
-/// The same, with another patience.
-pub fn read_within(path: &Path, patience: Duration) -> Result<Vec<u8>, Fault> {
+/// The same, with another patience, and with words on a redo list that stands beside the file.
+pub fn read_within(path: &Path, patience: Duration) -> Result<(Vec<u8>, Option<String>), Fault> {
     let lock = |file: &File| match file.try_lock_shared() {
         // A file system without locks is still good to read from: nobody appends there.
         Err(TryLockError::Error(_)) => Ok(()),
@@ -29,10 +30,10 @@ pub fn read_within(path: &Path, patience: Duration) -> Result<Vec<u8>, Fault> {
     };
     let busy = "another program appends to it";
     let file = locked(path, OpenOptions::new().read(true), patience, lock, busy)?;
-    whole(path, &file)
+    settle::read(path, whole(path, &file)?)
 }
 
-/// A file to append to, which stays locked until it is dropped, and its image.
+/// A file to append to, which stays locked until it is dropped, and its image as it stands.
 pub fn read_and_lock(path: &Path, patience: Duration) -> Result<(File, Vec<u8>), Fault> {
     let mut options = OpenOptions::new();
     let options = options.read(true).write(true);

@@ -41,17 +41,17 @@ journal: reads and writes systemd journal files of at most 8 MiB
   foreign FILE                   objects of types not known here, walked over
   new FILE                       makes a file, and never overwrites one
   append FILE NAME=VALUE ..      one entry more, on the disk when this ends
+  append --batch FILE            an entry for each line of standard input
   copy FILE TO                   a copy without half an append in it
   help COMMAND                   all of one command, with its options
 
 list, show, find, newest and values take a second file after FILE, read both as
 one stream and say from which, 1 or 2; list, find and newest have --since T,
 --until T, -n N, --reverse, --fields A,B, --no-header and -o tsv, csv or json.
-A wall time T is like '2026-11-15 14:23:44.5 +0100', in local time where it has
-no zone; a date, a time of day, now, or microseconds since 1970.
-Bytes that do not print show as \\xNN, a backslash shows as \\\\.
-Status: 0 done; 1 not found or failed; 2 typed wrongly; 3 the file is refused;
-4 the entry or new file is refused; 5 the file is full; 6 another has its lock.
+A wall time T is like '2026-11-15 14:23:44.5 +0100', local where it has no zone;
+a date, a time of day, now, or microseconds since 1970. Bytes that do not print
+show as \\xNN, a backslash as \\\\. Status: 0 done; 1 not found or failed; 2 typed
+wrongly; 3 file refused; 4 entry or new file refused; 5 file full; 6 lock taken.
 ";
 
 /// Which entries, and how they are printed: the same for `list`, `find` and `newest`.
@@ -141,8 +141,8 @@ A line can be given back: find FILE --field \"NAME=$line\" (read it by read -r).
 check FILE: whether the file can be read, and else why not, with status 3; then
 whether it takes appends, and else why not; how much room is left in it; how
 long its header is, whether the file is compact, and whether the boot id there
-is that of the last entry; and where it has foreign objects, how many and of
-which types, up to 100 of them
+is that of the last entry; where it has foreign objects, how many and of which
+types, up to 100 of them; and whether a redo list stands beside it, FILE.redo
 ",
     ),
     (
@@ -182,8 +182,19 @@ new FILE: makes a file, and never overwrites one; none that is compact
         "\
 append FILE NAME=VALUE ..: one entry more, which is on the disk when this ends.
 A field is taken as its bytes are.
+append --batch FILE: an entry for each line of standard input, or of the file
+that --from TEXT names. Fields have tabs between them and are typed as they are
+printed: \\xNN is a byte, \\\\ a backslash. Empty lines are passed over. They go
+out 32 at a time; where one is refused, none of its 32 is appended.
 
-  --seqnum N             its number, if not the next one
+  --sync WAY             of a batch. redo, if none is given: 4 syncs; FILE.redo
+                         has its stores until they are on the disk, and after a
+                         power cut this program finishes the file by it, while
+                         others may see it half done. places: some 5 syncs an
+                         entry, the file alone is always right. end: 1 sync; if
+                         the system or the disk does not keep the order of
+                         stores, a power cut may ruin the file
+  --seqnum N             its number, if not the next one; a batch counts on
   --time T               its wall time, if not now
   --monotonic T          its monotonic time in microseconds
   --machine ID, --boot ID
@@ -198,7 +209,8 @@ A field is taken as its bytes are.
         "copy",
         "\
 copy FILE TO: a copy made while no append is at work, so that it takes appends
-as the file does. Never overwrites a file.
+as the file does. Where a redo list stands beside the file, the copy is of the
+finished file. Never overwrites a file.
 
   --wait SECONDS         how long to wait for another program's lock
   --quiet                says nothing where all went well

@@ -1,7 +1,7 @@
 //! Why an append is refused: the one condition of the rule that applies, and the argument that it
 //! is about. The number is the library's; the words are worked out from the file and the request.
-use crate::append::Wish;
 use crate::ids;
+use crate::stamps::Wished;
 use crate::text::shown;
 use wrapper::{Entry, Refusal, Request};
 
@@ -9,8 +9,11 @@ use wrapper::{Entry, Refusal, Request};
 pub struct Append<'a> {
     pub image: &'a [u8],
     pub last: Option<&'a Entry<'a>>,
-    pub wish: &'a Wish,
+    pub wished: &'a Wished,
+    pub payloads: &'a [Vec<u8>],
     pub request: &'a Request<'a>,
+    /// The sequence number that a next file has to go on with, should this one be full.
+    pub next: u64,
 }
 
 impl Append<'_> {
@@ -18,7 +21,7 @@ impl Append<'_> {
     pub fn refused(&self, refusal: Refusal) -> Option<String> {
         match refusal.number() {
             15 => Some(self.machine()),
-            16 => field(&self.wish.payloads),
+            16 => field(self.payloads),
             17 => self.stamps(),
             18 => Some(self.full()),
             _ => None,
@@ -28,7 +31,7 @@ impl Append<'_> {
     fn machine(&self) -> String {
         let own = ids::shown(&ids::machine_of(self.image));
         let other = ids::shown(self.request.machine);
-        match self.wish.machine {
+        match self.wished.machine {
             Some(_) => format!("--machine {other}: the file belongs to machine {own}"),
             None => format!(
                 "the file belongs to machine {own}, and this is machine {other}: append to it \
@@ -45,7 +48,7 @@ impl Append<'_> {
         }
         let last = self.last?;
         if request.seqnum <= last.seqnum {
-            return Some(match self.wish.seqnum {
+            return Some(match self.wished.seqnum {
                 Some(seqnum) => format!(
                     "--seqnum {seqnum}: the last entry has sequence number {}, and the new one \
                      needs a higher one",
@@ -58,7 +61,7 @@ impl Append<'_> {
         }
         let (new, old) = (request.monotonic, last.monotonic);
         if *request.boot == last.boot_id && new < old {
-            return Some(match self.wish.monotonic {
+            return Some(match self.wished.monotonic {
                 Some(_) => {
                     format!("--monotonic {new}: the last entry, of the same boot, has {old}")
                 }
@@ -84,7 +87,7 @@ impl Append<'_> {
             "the file is full, {left} bytes are left: go on in a new one, made with --seqnum-id {}, \
              from --seqnum {} on",
             ids::shown(id),
-            self.request.seqnum,
+            self.next,
         )
     }
 }

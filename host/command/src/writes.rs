@@ -1,24 +1,24 @@
-//! The commands that write, `new`, `append` and `copy`: what was typed after them.
-use crate::arguments::{id, number, time};
+//! The commands that write, `new`, `append` and `copy`: what was typed after them, and what they do.
+use crate::arguments::{id, number};
 use crate::done::Manner;
 use crate::fault::Fault;
 use crate::files::PATIENCE;
 use crate::words::Words;
-use crate::{append, copy, new};
+use crate::{append, appends, batch, copy, new};
 use std::ffi::{OsStr, OsString};
-use std::os::unix::ffi::OsStringExt;
 use std::path::PathBuf;
 use std::time::Duration;
 
 pub struct Write {
-    file: PathBuf,
-    what: What,
-    manner: Manner,
+    pub file: PathBuf,
+    pub what: What,
+    pub manner: Manner,
 }
 
-enum What {
+pub enum What {
     New(new::Wish),
     Append(append::Wish),
+    Batch(batch::Wish),
     Copy { to: PathBuf },
 }
 
@@ -27,6 +27,7 @@ pub fn carry_out(write: Write) -> Result<(), Fault> {
     match what {
         What::New(wish) => new::new(file, wish, manner),
         What::Append(wish) => append::append(file, wish, manner),
+        What::Batch(wish) => batch::append(file, wish, manner),
         What::Copy { to } => copy::copy(file, to, manner),
     }
 }
@@ -35,7 +36,7 @@ pub fn carry_out(write: Write) -> Result<(), Fault> {
 pub fn command(name: &str, rest: &[OsString]) -> Result<Write, Fault> {
     match name {
         "new" => new_file(rest),
-        "append" => append_one(rest),
+        "append" => appends::append(rest),
         _ => copied(rest),
     }
 }
@@ -71,40 +72,6 @@ fn new_file(rest: &[OsString]) -> Result<Write, Fault> {
     })
 }
 
-fn append_one(rest: &[OsString]) -> Result<Write, Fault> {
-    let (rest, [anyway, quiet]) = flags(rest, ["--anyway", "--quiet"]);
-    let names = [
-        "--seqnum",
-        "--time",
-        "--monotonic",
-        "--machine",
-        "--boot",
-        "--wait",
-    ];
-    let mut words = Words::new(&rest, &names)?;
-    let payloads = words.plain.drain(1.min(words.plain.len())..);
-    let payloads = payloads.map(OsString::into_vec).collect();
-    let wish = append::Wish {
-        seqnum: words.option("--seqnum", number)?,
-        realtime: words.option("--time", time)?,
-        monotonic: words.option("--monotonic", number)?,
-        machine: words.option("--machine", id)?,
-        boot: words.option("--boot", id)?,
-        anyway,
-        payloads,
-    };
-    let manner = manner(&words, quiet)?;
-    let [file] = words.plain("append FILE, options and fields")?;
-    match wish.payloads[..] {
-        [] => Err(Fault::usage("a field NAME=VALUE is missing")),
-        _ => Ok(Write {
-            file: file.into(),
-            what: What::Append(wish),
-            manner,
-        }),
-    }
-}
-
 fn copied(rest: &[OsString]) -> Result<Write, Fault> {
     let (rest, [quiet]) = flags(rest, ["--quiet"]);
     let words = Words::new(&rest, &["--wait"])?;
@@ -117,7 +84,7 @@ fn copied(rest: &[OsString]) -> Result<Write, Fault> {
     })
 }
 
-fn manner(words: &Words, quiet: bool) -> Result<Manner, Fault> {
+pub fn manner(words: &Words, quiet: bool) -> Result<Manner, Fault> {
     let wait = words.option("--wait", number)?;
     Ok(Manner {
         wait: wait.map_or(PATIENCE, Duration::from_secs),
@@ -126,7 +93,7 @@ fn manner(words: &Words, quiet: bool) -> Result<Manner, Fault> {
 }
 
 /// Options without a value: the other words, and whether each was given. After `--` there are none.
-fn flags<const N: usize>(words: &[OsString], names: [&str; N]) -> (Vec<OsString>, [bool; N]) {
+pub fn flags<const N: usize>(words: &[OsString], names: [&str; N]) -> (Vec<OsString>, [bool; N]) {
     let end = words.iter().position(|word| word == "--");
     let (options, plain) = words.split_at(end.unwrap_or(words.len()));
     let given = names.map(|name| options.iter().any(|word| word == name));

@@ -18,6 +18,12 @@ pub fn stores(list: &[u8]) -> Vec<Store> {
         .collect()
 }
 
+/// A list of these stores.
+pub fn list(stores: &[Store]) -> Vec<u8> {
+    let numbers = stores.iter().flat_map(|store| [store.offset, store.value]);
+    numbers.flat_map(u64::to_le_bytes).collect()
+}
+
 /// "Carrying out the first k stores writes the image. Refusal 21, nothing written: k above the
 /// number of whole stores in the list, or among those k an offset not a multiple of 8 or with
 /// fewer than 8 bytes left."

@@ -191,8 +191,8 @@ fn arrays(image: &Image, found: &mut Vec<Clause>) {
 }
 
 /// 15: "machine id differs", bytes 40 to 56.
-pub fn fifteen(image: &Image, request: &Request, found: &mut Vec<Clause>) {
-    if id(image.bytes, header::MACHINE_ID) != request.machine_id {
+pub fn fifteen(image: &Image, machine_id: [u8; 16], found: &mut Vec<Clause>) {
+    if id(image.bytes, header::MACHINE_ID) != machine_id {
         found.push(MACHINE_DIFFERS);
     }
 }

@@ -1,6 +1,7 @@
 //! The rules and the published hashes once more, written from the documents in plain Rust.
 pub mod after;
 pub mod ask;
+pub mod batch;
 pub mod boot;
 pub mod carry;
 pub mod committed;

@@ -3,11 +3,13 @@
 //! types.
 //!
 //! Over them: `entries` and `stream` show all entries one after the other, and `foreign_objects` all
-//! objects that are walked over; `Fields` packs the fields of an append, `stores` is the list of its
-//! stores as long as it has to be, and `between_syncs` has it in the parts between two syncs.
+//! objects that are walked over; `Fields` packs the fields of an append and `Batch` the entries of a
+//! batch, `stores` and `stores_batch` are the list of its stores as long as it has to be, and
+//! `between_syncs` has it in the parts between two syncs.
 //!
 //! `raw` has the calls with the numbers that the archive answers, and makes all `unsafe` calls into
 //! it.
+mod batch;
 mod boot;
 mod call;
 mod entries;
@@ -25,6 +27,7 @@ mod stream;
 mod syncs;
 mod turning;
 
+pub use batch::{plan_batch, stores_batch, Batch, NewEntry, PlannedBatch, RefusedBatch};
 pub use boot::{boot_meaning, BootMeaning};
 pub use entries::{entries, Entries};
 pub use fields::Fields;

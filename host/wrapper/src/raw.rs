@@ -6,11 +6,13 @@
 //! SAFETY of each call: as `call` has it. `read` and `array` arguments are only read.
 #![allow(unsafe_code)]
 
+mod batch;
 mod boot;
 mod foreign;
 mod merged;
 
 use crate::call;
+pub use batch::{plan_batch, Batch};
 pub use boot::{boot_meaning, BootMeaning};
 pub use foreign::{foreign, Foreign};
 pub use merged::{merged, merged_item, page_merged, Merged, MergedPage, MergedPart};
@@ -190,7 +192,7 @@ pub fn plan(image: &[u8], request: &Request, stores: &mut [u8]) -> u64 {
     }
 }
 
-/// The number of sync points in the list, which `plan` wrote and which has no bytes after its stores.
+/// The number of sync points in the list, which `plan` or `plan_batch` wrote and which has no bytes after its stores.
 /// Each is a number of stores, in eight bytes at the front of `points`, as many as there is room for;
 /// after them `points` is as it was.
 #[inline]

@@ -1,7 +1,7 @@
-//! The refusals 1 to 21 and 25 in words: for each its number, a sentence for a person, and the
+//! The refusals 1 to 22 and 25 in words: for each its number, a sentence for a person, and the
 //! condition as it stands in the rules' tables.
 
-pub const ROWS: [(u64, &str, &str); 22] = [
+pub const ROWS: [(u64, &str, &str); 23] = [
     (
         1,
         "this is no journal, or only the start of one: it is shorter than a journal's header",
@@ -143,6 +143,12 @@ pub const ROWS: [(u64, &str, &str); 22] = [
         "the stores are not of this file, and nothing was written: plan the append again",
         "k above the number of whole stores in the list, or among those k an offset not a multiple \
          of 8 or with fewer than 8 bytes left",
+    ),
+    (
+        22,
+        "the entries are not packed as a batch: give 1 to 32 of them, each with its stamps, the length of \
+         its fields and the fields",
+        "not 1 to 32 entries that fill the buffer",
     ),
     (
         25,

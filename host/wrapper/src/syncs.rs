@@ -1,14 +1,14 @@
 //! Where a host syncs while it carries an append out.
 use crate::raw;
 
-/// The sync points of an append's list, without bytes after its stores: numbers of stores, rising,
-/// the last the number of all. Once the stores up to a point are on the disk, those up to the next one
-/// may get there in any order.
+/// The sync points of an append's list or a batch's, without bytes after its stores: numbers of stores,
+/// rising, the last the number of all. Once the stores up to a point are on the disk, those up to the
+/// next one may get there in any order.
 ///
-/// A list that `plan` did not write has points too, which mean nothing.
+/// A list that neither `plan` nor `plan_batch` wrote has points too, which mean nothing.
 pub fn sync_points(list: &[u8]) -> Vec<usize> {
-    // An append has at most six.
-    let mut points = vec![0; 8 * 6];
+    // An append has at most six, and a batch five for each entry and one more.
+    let mut points = vec![0; 8 * (5 * 32 + 1)];
     let count = 8 * raw::sync_points(list, &mut points) as usize;
     if count > points.len() {
         points.resize(count, 0);

@@ -66,22 +66,23 @@ pub(super) fn said<'a>(image: &'a [u8], asked: &Asked) -> Option<Said<'a>> {
 
 /// What the archive says to all that is asked, each compared with the reading.
 pub(super) fn all<'a>(journal: &Journal<'a>, asked: &[Asked]) -> Result<Vec<Said<'a>>, String> {
-    let mut all = Vec::new();
-    for asked in asked {
-        let said = said(journal.image.bytes, asked).ok_or("a part outside the image")?;
-        let same = match (asked, &said) {
-            (Asked::Lookup(question), Said::Lookup(words, _)) => *words == read(journal, question),
-            (Asked::Stamps(at), Said::Stamps(stamps)) => *stamps == read_stamps(journal, *at),
-            (Asked::Foreign(place), Said::Foreign(it)) => *it == journal.foreign(*place),
-            (Asked::BootMeaning, Said::BootMeaning(it)) => *it == boot_meaning(journal.image.bytes),
-            _ => false,
-        };
-        if !same {
-            return Err(format!("{said:?}, and the reading says another thing"));
-        }
-        all.push(said);
+    asked.iter().map(|asked| checked(journal, asked)).collect()
+}
+
+/// What it says to one of them.
+pub(super) fn checked<'a>(journal: &Journal<'a>, asked: &Asked) -> Result<Said<'a>, String> {
+    let said = said(journal.image.bytes, asked).ok_or("a part outside the image")?;
+    let same = match (asked, &said) {
+        (Asked::Lookup(question), Said::Lookup(words, _)) => *words == read(journal, question),
+        (Asked::Stamps(at), Said::Stamps(stamps)) => *stamps == read_stamps(journal, *at),
+        (Asked::Foreign(place), Said::Foreign(it)) => *it == journal.foreign(*place),
+        (Asked::BootMeaning, Said::BootMeaning(it)) => *it == boot_meaning(journal.image.bytes),
+        _ => false,
+    };
+    match same {
+        true => Ok(said),
+        false => Err(format!("{said:?}, and the reading says another thing")),
     }
-    Ok(all)
 }
 
 /// Everything to ask of both images.
@@ -167,7 +168,7 @@ pub fn cuts(
 }
 
 /// The image with the first k stores carried out by the archive, as the reading does it.
-fn cut(image: &[u8], list: &[u8], k: u64) -> Result<Vec<u8>, String> {
+pub(super) fn cut(image: &[u8], list: &[u8], k: u64) -> Result<Vec<u8>, String> {
     let (mut cut, mut should) = (image.to_vec(), image.to_vec());
     let answers = (
         raw::carry_out(&mut cut, list, k),

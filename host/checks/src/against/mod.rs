@@ -1,5 +1,7 @@
 //! The archive compared with the reading, for tests and long runs. What differs comes back as a
 //! text.
+pub mod batch;
+pub mod batch_cuts;
 pub mod boot;
 pub mod cuts;
 pub mod foreign;

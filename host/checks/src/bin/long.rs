@@ -1,14 +1,16 @@
 //! The archive against the independent reading, as often as asked:
 //! `cargo run --offline --release -p checks -- 1000000` opens so many images of every kind,
 //! `.. -- plan 1000000` works out so many appends and where to sync them, `.. -- cuts 1000` cuts so
-//! many appends everywhere and asks every lookup each time, `.. -- merged 10000` shows so many pairs
-//! of files as one stream, and `.. -- foreign 100000` names the foreign objects of so many images. A
-//! second number is the first seed. It ends with status 1 at the first difference, and leaves the
-//! image in a file, or the two images one after the other.
+//! many appends everywhere and asks every lookup each time, `.. -- batch 100000` works out so many
+//! batches, `.. -- batch-cuts 100` cuts so many of them everywhere and asks one lookup in nine each time,
+//! `.. -- merged 10000` shows so many pairs of files as one stream, and `.. -- foreign 100000` names the
+//! foreign objects of so many images. A second number is the first seed. It ends with status 1 at the
+//! first difference, and leaves the image in a file, or the two images one after the other.
+use checks::against::batch::Batch;
 use checks::against::plan::{number, Append};
-use checks::against::{cuts, foreign, merged};
+use checks::against::{batch_cuts, cuts, foreign, merged};
 use checks::generator::dice::{between, once_in};
-use checks::generator::{any::any, appends, pairs::pair};
+use checks::generator::{any::any, appends, batches, pairs::pair};
 use checks::random::Random;
 use reading::refusal::refusal;
 use std::time::Instant;
@@ -23,6 +25,8 @@ fn main() {
         match arguments.first().map(String::as_str) {
             Some("plan") => ("appends", 50_000, plan),
             Some("cuts") => ("appends at every cut", 100, cut),
+            Some("batch") => ("batches", 10_000, batch),
+            Some("batch-cuts") => ("batches at every cut", 10, cut_batch),
             Some("merged") => ("pairs of files", 10_000, stream),
             Some("foreign") => ("images by their foreign objects", 50_000, named),
             _ => ("images", 50_000, open),
@@ -95,6 +99,32 @@ fn cut(random: &mut Random) -> Compared {
     cuts::cuts(&case.image, case.asked.request(), 1, tried)
         .map(|taken| taken.err().unwrap_or(0))
         .map_err(|difference| (format!("{difference}, of {:?}", case.asked), case.image))
+}
+
+/// With lists of several lengths.
+fn batch(random: &mut Random) -> Compared {
+    let case = batches::any(random);
+    Batch::new(&case.image, case.machine_id, &case.entries())
+        .put_all(random.word() >> 8)
+        .map(|answer| answer.refusal)
+        .map_err(|difference| (format!("{difference}, of {:?}", case.asked), case.image))
+}
+
+fn cut_batch(random: &mut Random) -> Compared {
+    let case = batches::good(random);
+    let entries = case.entries();
+    let batch = Batch::new(&case.image, case.machine_id, &entries);
+    batch_cuts::taken(&batch, random.word() >> 8)
+        .and_then(|taken| match taken {
+            Ok(taken) => batch_cuts::cuts(&taken, 9).map(|_| 0),
+            Err(number) => Ok(number),
+        })
+        .map_err(|difference| {
+            (
+                format!("{difference}, of {:?}", case.asked),
+                case.image.clone(),
+            )
+        })
 }
 
 /// From 0 and 0 and from some other pairs of places; now and then of two files of any kind.

@@ -45,13 +45,13 @@ fn need(image: &[u8], asked: &Asked) -> Option<usize> {
 }
 
 /// Where the new objects of an append end.
-fn end_of(image: &[u8], asked: &Asked) -> u64 {
+pub fn end_of(image: &[u8], asked: &Asked) -> u64 {
     let payloads = distinct(&unpacked(&asked.fields).expect("fitting"));
     places(&Image::walked(image), &payloads).end as u64
 }
 
 /// The image with its arena ending elsewhere, and 0 to 7 bytes after it.
-fn with_arena_to(image: &[u8], end: u64) -> Vec<u8> {
+pub fn with_arena_to(image: &[u8], end: u64) -> Vec<u8> {
     let mut image = image.to_vec();
     let arena_size = end - first_object(&image);
     image.resize((end + end / 8 % 8) as usize, 0);

@@ -1,6 +1,8 @@
 //! Good images and mutated ones, by a writer of its own, and appends to them.
+pub mod ahead;
 pub mod any;
 pub mod appends;
+pub mod batches;
 pub mod clock;
 pub mod collide;
 pub mod compact;
@@ -26,6 +28,7 @@ pub mod rendered;
 pub mod requests;
 pub mod set_clock;
 mod strays;
+pub mod unheld;
 pub mod wall_clock;
 pub mod wish;
 pub mod worked;

@@ -3,10 +3,11 @@ use crate::page::blocks;
 use std::collections::BTreeSet;
 
 const EXPORTS: &str = include_str!("../../../../crates/journal/src/lib.rt");
-const STRUCTS: [&str; 3] = [
+const STRUCTS: [&str; 4] = [
     include_str!("../../../../crates/reading/src/answer.rt"),
     include_str!("../../../../crates/reading/src/merged.rt"),
     include_str!("../../../../crates/reading/src/page.rt"),
+    include_str!("../../../../crates/writing/src/answer.rt"),
 ];
 
 /// An export: its name, its parameters by name and type, and the type of its answer.
@@ -97,6 +98,6 @@ fn declared() -> BTreeSet<String> {
 #[test]
 fn every_export() {
     let expected = expected();
-    assert_eq!(expected.len(), 22 + 8);
+    assert_eq!(expected.len(), 23 + 9);
     assert_eq!(declared(), expected);
 }

@@ -4,6 +4,7 @@
 //!
 //! It needs journalctl, so that `cargo test` runs it only when it is asked for by name:
 //! `cargo test --offline --release -p checks --test journalctl`.
+mod batches;
 mod check;
 mod corpus;
 mod cuts;

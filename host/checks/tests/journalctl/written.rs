@@ -2,7 +2,7 @@
 use reading::request::packed;
 use wrapper::{plan, Planned, Request};
 
-const MACHINE: [u8; 16] = [2; 16];
+pub const MACHINE: [u8; 16] = [2; 16];
 /// More than any of the appends here needs.
 const MOST_STORES: usize = 4_000;
 

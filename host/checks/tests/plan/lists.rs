@@ -1,4 +1,4 @@
-//! Sync points of lists that no append wrote: of several entries, as batches will have them, and of
+//! Sync points of lists that no append wrote: of several entries, as batches have them, and of
 //! anything else.
 use std::collections::BTreeSet;
 

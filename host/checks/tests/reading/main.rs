@@ -1,6 +1,7 @@
 //! The independent reading of the rules, tried on the worked examples, on real files, on good
 //! and damaged images, and at every cut of many appends.
 mod appends;
+mod batches;
 mod compact;
 mod compact_refused;
 mod corpus;

@@ -22,7 +22,8 @@ static int cut_short(void) {
     return ftruncate(appended, 0);
 }
 
-int msync(void *at, size_t len, int flags) {
+/* Before each sync, of a mapped file, a file or a folder. */
+static int at_sync(void) {
     static int count;
     count++;
     if (told("KILL_AT") == count)
@@ -37,8 +38,17 @@ int msync(void *at, size_t len, int flags) {
         errno = EIO;
         return -1;
     }
+    return 0;
+}
+
+int msync(void *at, size_t len, int flags) {
     int (*real)(void *, size_t, int) = (int (*)(void *, size_t, int))dlsym(RTLD_NEXT, "msync");
-    return real(at, len, flags);
+    return at_sync() == 0 ? real(at, len, flags) : -1;
+}
+
+int fsync(int file) {
+    int (*real)(int) = (int (*)(int))dlsym(RTLD_NEXT, "fsync");
+    return at_sync() == 0 ? real(file) : -1;
 }
 
 int posix_fallocate(int file, off_t offset, off_t len) {

@@ -21,6 +21,7 @@ fn a_screen_of_all() {
         let start = format!("\n  {command} FILE");
         assert!(all.contains(&start), "{command}");
     }
+    assert!(all.contains("\n  append --batch FILE "));
     // Wall times may fall, so "the first" is no time but a place.
     assert!(all.contains("--time T             the first in order at this wall time"));
     for words in [
@@ -77,8 +78,10 @@ fn options() {
         "--monotonic",
         "--seqnum-id",
         "--wait",
+        "--from",
+        "--sync",
     ];
-    let alone = ["--anyway", "--quiet"];
+    let alone = ["--anyway", "--quiet", "--batch"];
     let mut taken = Vec::new();
     for command in COMMANDS {
         let own = text(&["help", command]);
@@ -100,7 +103,7 @@ fn options() {
             }
         }
     }
-    assert_eq!(taken.len(), 7 + 10 + 7 + 2 + 9 + 8 + 2, "{taken:?}");
+    assert_eq!(taken.len(), 7 + 10 + 7 + 2 + 9 + 11 + 2, "{taken:?}");
 }
 
 /// After `--` it is a name.

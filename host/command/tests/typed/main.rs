@@ -1,6 +1,9 @@
 //! The program `journal` as a person types it: what it prints, what it says on standard error, the
 //! status it ends with, and what becomes of the file.
 mod appending;
+mod batch_refused;
+mod batch_typed;
+mod batches;
 mod checked;
 mod copying;
 mod cut;
@@ -19,6 +22,11 @@ mod newest;
 mod person;
 mod pipes;
 mod reading;
+mod redo;
+mod redo_failing;
+mod redo_files;
+mod redo_met;
+mod redo_others;
 mod refused;
 mod replaced;
 mod rotated;
@@ -29,6 +37,7 @@ mod shortened;
 mod signals;
 mod times;
 mod told;
+mod tray;
 mod two;
 mod two_files;
 mod two_good_files;

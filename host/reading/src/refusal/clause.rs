@@ -165,5 +165,13 @@ clauses! { APPEND_CLAUSES:
     LIST_SHORT = 19, "the store list is too short";
 }
 
+// Refusal 22 of a batch: "unless 1 to 32 entries fill the buffer, straight after 15".
+clauses! { FRAME_CLAUSES:
+    NO_ENTRIES = 22, "no entry";
+    ABOVE_32_ENTRIES = 22, "entries above 32";
+    STAMPS_CUT_SHORT = 22, "fewer bytes left than an entry has before its fields";
+    FIELDS_CUT_SHORT = 22, "fewer bytes left than an entry's fields have";
+}
+
 /// The numbers of an append's refusals in the order of their tests.
 pub const APPEND_ORDER: [u64; 9] = [12, 25, 13, 14, 15, 16, 17, 18, 19];

@@ -1,0 +1,110 @@
+//! Files that the archive makes, batches for them, and how often it was asked.
+use checks::against::batch::Batch;
+use checks::generator::batches::Case;
+use checks::generator::compact::set_layout;
+use checks::generator::worked::request;
+use checks::random::Random;
+use reading::batch::{packed, Answer};
+use reading::layout::Layout;
+use reading::request::{self as buffer, Request};
+use wrapper::new;
+
+/// The machine's id in `request` of the worked examples.
+pub const MACHINE: [u8; 16] = [2; 16];
+
+/// What is written: the layouts and header sizes, each keyed and not.
+pub const WRITTEN: [(Layout, u64, bool); 8] = [
+    (Layout::Regular, 256, false),
+    (Layout::Regular, 256, true),
+    (Layout::Regular, 272, false),
+    (Layout::Regular, 272, true),
+    (Layout::Compact, 256, false),
+    (Layout::Compact, 256, true),
+    (Layout::Compact, 272, false),
+    (Layout::Compact, 272, true),
+];
+
+/// A new file of the archive, for `request` of the worked examples.
+pub fn made(
+    (layout, header_size, keyed): (Layout, u64, bool),
+    length: usize,
+    cells: u64,
+) -> Vec<u8> {
+    let ids = [[1; 16], MACHINE, [3; 16], [4; 16]].concat();
+    let ids = ids[..].try_into().expect("64 bytes");
+    let mut image = Random::new(length as u64).bytes(length);
+    let answer = new(&mut image, ids, cells, cells, keyed, header_size);
+    assert_eq!(answer, Ok(()), "a new file of {length} bytes");
+    set_layout(&mut image, layout);
+    image
+}
+
+/// The buffer of entries with these payloads, of one boot and with the numbers from one on, which are
+/// their times too.
+pub fn numbered(first: u64, entries: &[&[&str]]) -> Vec<u8> {
+    let packs: Vec<Vec<u8>> = entries.iter().map(|payloads| fields(payloads)).collect();
+    let asked = packs.iter().zip(first..);
+    let requests: Vec<Request> = asked.map(|(fields, n)| request(fields, n, n, n)).collect();
+    packed(&requests)
+}
+
+/// The fields of an entry with these payloads.
+pub fn fields(payloads: &[&str]) -> Vec<u8> {
+    let payloads: Vec<&[u8]> = payloads.iter().map(|payload| payload.as_bytes()).collect();
+    buffer::packed(&payloads)
+}
+
+/// How many batches were tried, by the answer: the refusal, or 0.
+#[derive(Default)]
+pub struct Tried(pub [u64; 26]);
+
+impl Tried {
+    pub fn tried(&self) -> u64 {
+        self.0.iter().sum::<u64>() * 8
+    }
+
+    fn count(&mut self, answer: Answer) -> Answer {
+        self.0[answer.refusal as usize] += 1;
+        answer
+    }
+
+    /// Tries a batch with lists of several lengths; the answer with one that is long enough.
+    pub fn batch(&mut self, image: &[u8], machine_id: [u8; 16], entries: &[u8]) -> Answer {
+        self.whole(&Batch::new(image, machine_id, entries))
+    }
+
+    /// The same of one that was made.
+    pub fn case(&mut self, case: &Case) -> Answer {
+        self.batch(&case.image, case.machine_id, &case.entries())
+    }
+
+    /// The same for one that the reading has worked out.
+    pub fn whole(&mut self, batch: &Batch) -> Answer {
+        let answer = batch.put_all(self.tried());
+        self.count(answer.unwrap_or_else(|difference| panic!("{difference}")))
+    }
+
+    /// Tries a batch with one list of so many bytes; the answer and the list.
+    pub fn with_list(&mut self, batch: &Batch, length: usize) -> (Answer, Vec<u8>) {
+        let put = batch.put(length, self.tried());
+        let (answer, list) = put.unwrap_or_else(|difference| panic!("{difference}"));
+        (self.count(answer), list)
+    }
+
+    pub fn print(&self, what: &str) {
+        let all: u64 = self.0.iter().sum();
+        println!(
+            "{what}: {all} batches, by their answers 0 to 25 {:?}",
+            self.0
+        );
+    }
+}
+
+/// The answer of a batch that is refused for an entry.
+pub fn refused(refusal: u64, index: u64) -> Answer {
+    Answer {
+        refusal,
+        index,
+        stores: 0,
+    }
+}
