@@ -6,7 +6,7 @@ use checks::random::Random;
 use reading::request::packed;
 use std::hint::black_box;
 use wrapper::raw::{self, Request};
-use wrapper::{stores_batch, Batch, NewEntry};
+use wrapper::{stores_batch, Batch};
 
 const MACHINE: [u8; 16] = [2; 16];
 const BOOT: [u8; 16] = [3; 16];
@@ -48,23 +48,8 @@ fn batch(what: &str, full: &Full, entries: &[Vec<Vec<u8>>]) {
         .map(|(fields, n)| request(fields, n))
         .collect();
     let mut batch = Batch::new();
-    for &Request {
-        boot,
-        seqnum,
-        realtime,
-        monotonic,
-        fields,
-        ..
-    } in &requests
-    {
-        let entry = NewEntry {
-            boot,
-            seqnum,
-            realtime,
-            monotonic,
-            fields,
-        };
-        batch.add(entry).expect("it is short");
+    for request in &requests {
+        batch.add(request.into()).expect("it is short");
     }
     let image = &full.image;
     let stores = stores_batch(image, &MACHINE, batch.packed()).expect("the batch is taken");

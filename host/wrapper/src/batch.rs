@@ -1,5 +1,5 @@
 //! A batch: several entries appended by one list of stores.
-use crate::raw;
+use crate::raw::{self, Request};
 use crate::refusal::Refusal;
 use std::fmt::{Display, Formatter};
 
@@ -11,6 +11,18 @@ pub struct NewEntry<'a> {
     pub realtime: u64,
     pub monotonic: u64,
     pub fields: &'a [u8],
+}
+
+impl<'a> From<&Request<'a>> for NewEntry<'a> {
+    fn from(request: &Request<'a>) -> NewEntry<'a> {
+        NewEntry {
+            boot: request.boot,
+            seqnum: request.seqnum,
+            realtime: request.realtime,
+            monotonic: request.monotonic,
+            fields: request.fields,
+        }
+    }
 }
 
 /// Entries in one buffer: for each its sequence number, wall time and monotonic time, 8 bytes each,

@@ -1,7 +1,6 @@
 //! Arrays that are chained ahead: of the header's chain and of a DATA's, before their items are in use.
-use super::draft::{numbered, Array, Data, Draft, Field, Item, Part};
+use super::draft::{array_of, numbered, Data, Draft, Field, Item, Part};
 use reading::layout::Layout;
-use std::ops::Range;
 
 /// A file whose header and only DATA have chains of arrays of 2, 1 and 3 items each, with so many
 /// entries, at most 6. Their spare items hold anything.
@@ -10,12 +9,7 @@ pub fn ahead(layout: Layout, header_size: u64, keyed: bool, entries: usize) -> D
         true => Item::Entry(8 + n),
         false => Item::Raw(0x0102_0304 * n as u64),
     };
-    let array = |next: Option<usize>, items: Range<usize>| {
-        Part::Array(Array {
-            next,
-            items: items.map(item).collect(),
-        })
-    };
+    let array = |next, places| array_of(next, places, item);
     let mut parts = vec![
         Part::Data(Data {
             payload: b"A=1".to_vec(),

@@ -2,6 +2,7 @@
 //! their number in `parts`, and `order` says how they follow one another in the file.
 
 use reading::layout::Layout;
+use std::ops::Range;
 
 #[derive(Clone)]
 pub struct Draft {
@@ -73,6 +74,14 @@ pub struct Entry {
     pub boot_id: [u8; 16],
     /// The DATA, in any order.
     pub items: Vec<usize>,
+}
+
+/// An array whose items are those of a chain from a place on, by their place in it.
+pub fn array_of(next: Option<usize>, places: Range<usize>, item: impl Fn(usize) -> Item) -> Part {
+    Part::Array(Array {
+        next,
+        items: places.map(item).collect(),
+    })
 }
 
 /// ENTRYs with the numbers from 1 on, which are their times too, of one boot and with the same DATA.

@@ -1,5 +1,5 @@
 //! The header's late fields: what 14 wants of them, and what an append stores.
-use checks::generator::draft::{numbered, Array, Data, Draft, Field, Item, Part};
+use checks::generator::draft::{array_of, numbered, Data, Draft, Field, Item, Part};
 use checks::generator::frame::set;
 use checks::generator::render::render;
 use checks::generator::worked::request;
@@ -37,12 +37,7 @@ fn ahead(header_size: u64, entries: usize, compatible_flags: u32) -> (Vec<u8>, [
         true => Item::Entry(6 + n),
         false => Item::Raw(0),
     };
-    let array = |next: Option<usize>, items: std::ops::Range<usize>| {
-        Part::Array(Array {
-            next,
-            items: items.map(item).collect(),
-        })
-    };
+    let array = |next, places| array_of(next, places, item);
     let mut parts = vec![
         data,
         field,
