@@ -39,7 +39,7 @@ module _ {img : Image} {dataCells fieldCells : ℕ} (b : Blank img dataCells fie
   F = model img
 
   -- there is no object of a kind but tables
-  no-data : F .of DATA ≡ []
+  pub no-data : F .of DATA ≡ []
   no-data = none-of-kind b DATA (λ e. omega arith) (λ e. omega arith)
 
   no-field : F .of FIELD ≡ []
@@ -74,14 +74,14 @@ module _ {img : Image} {dataCells fieldCells : ℕ} (b : Blank img dataCells fie
   before-first f h = omega (arith, h, first-start img)
 
   -- n_entries and entry_array_offset are 0
-  no-entries : F .read (header nEntries) ≡ 0
+  pub no-entries : F .read (header nEntries) ≡ 0
   no-entries = b .facts (offsetOf nEntries) refl (omega arith) (before-first nEntries (omega arith))
 
-  no-chain : F .read (header entryArrayOffset) ≡ 0
+  pub no-chain : F .read (header entryArrayOffset) ≡ 0
   no-chain = b .facts (offsetOf entryArrayOffset) refl (omega arith) (before-first entryArrayOffset (omega arith))
 
   -- 1 to 7
-  walked-blank : Walked img
+  pub walked-blank : Walked img
   walked-blank = walked img (frame-clear b)
 
   -- 8 to 11

@@ -16,7 +16,7 @@ use Rattle.format.specs.File.{model}
 use Rattle.format.specs.Refusal.{signatureFault, flagsFault}
 use Rattle.format.proofs.HeaderSizes.{first-stored}
 use Rattle.reading.specs.View.{View, view}
-use Rattle.writing.specs.NewFile.{Asked, firstBytes, newFile, made}
+use Rattle.writing.specs.NewFile.{Asked, newFileRefusal, firstBytes, newFile, made}
 use Rattle.writing.specs.Ready.{compatibleFault, headerSizeFault}
 use Rattle.writing.proofs.NewFiles.{size-written, size-appended, Granted, granted-by}
 use Rattle.next_append.specs.Next.{TakesAppends, GivenIds, showsNothing, New}
@@ -131,9 +131,17 @@ module _ (len : ℕ) (a : Asked) (given : GivenIds a) (g : Granted len a) where
   takes : TakesAppends (newFile len a) × (view (model (newFile len a)) ≡ showsNothing a)
   takes = (blank-takes blank, shows)
 
+-- what the call leaves is that file
+made-new : (a : Asked) (img : Image) → newFileRefusal (length img) a ≡ 0 → made a img ≡ newFile (length img) a
+unfolding made
+made-new a img z = rw (made, z)
+
 -- a new file takes the first append, and shows nothing
 pub new : New
-unfolding made
 new a img given z =
-    let e : made a img ≡ newFile (length img) a = rw (made, z) in
-    subst (λ (i : Image). TakesAppends i × (view (model i) ≡ showsNothing a)) (sym e) (takes (length img) a given (granted-by (length img) a z))
+    subst (λ (i : Image). TakesAppends i × (view (model i) ≡ showsNothing a)) (sym (made-new a img z)) (takes (length img) a given (granted-by (length img) a z))
+
+-- it has two empty tables and nothing else
+pub new-blank : (a : Asked) (img : Image) → GivenIds a → newFileRefusal (length img) a ≡ 0 → Blank (made a img) (a .dataCells) (a .fieldCells)
+new-blank a img given z =
+    subst (λ (i : Image). Blank i (a .dataCells) (a .fieldCells)) (sym (made-new a img z)) (blank (length img) a given (granted-by (length img) a z))

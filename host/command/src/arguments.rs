@@ -2,12 +2,13 @@
 use crate::fault::Fault;
 use crate::form::Form;
 use crate::ids::{self, Id};
+use crate::parts::Shape;
 use crate::questions::{self, By, Wanted};
 use crate::selection::Selection;
 use crate::text::shown;
 use crate::words::{Files, Words};
 use crate::writes::{self, Write};
-use crate::{help, times};
+use crate::{help, room, times};
 use std::ffi::{OsStr, OsString};
 use std::path::PathBuf;
 
@@ -45,6 +46,7 @@ pub enum Command {
         file: PathBuf,
         form: Form,
     },
+    Room(Shape),
     Write(Write),
 }
 
@@ -69,6 +71,7 @@ pub fn command(words: &[OsString]) -> Result<Command, Fault> {
             Ok(Command::Check { file: file.into() })
         }
         "foreign" => questions::foreign(rest),
+        "room" => room::typed(rest).map(Command::Room),
         "new" | "append" | "copy" => writes::command(name, rest).map(Command::Write),
         _ => Err(Fault::usage(format!(
             "no command {}",

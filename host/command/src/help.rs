@@ -39,17 +39,17 @@ journal: reads and writes systemd journal files of at most 8 MiB
   values FILE NAME               field values by first appearance, last first
   check FILE                     whether it can be read and takes appends
   foreign FILE                   objects of types not known here, walked over
+  room --entries N NAME=BYTES    the bytes that a file of so many entries takes
   new FILE                       makes a file, and never overwrites one
   append FILE NAME=VALUE ..      one entry more, on the disk when this ends
   append --batch FILE            an entry for each line of standard input
   copy FILE TO                   a copy without half an append in it
   help COMMAND                   all of one command, with its options
 
-list, show, find, newest and values take a second file after FILE, read both as
-one stream and say from which, 1 or 2; list, find and newest have --since T,
---until T, -n N, --reverse, --fields A,B, --no-header and -o tsv, csv or json.
-A wall time T is like '2026-11-15 14:23:44.5 +0100', local where it has no zone;
-a date, a time of day, now, or microseconds since 1970. Bytes that do not print
+list, show, find, newest and values take FILE FILE2 too, read as one stream, and
+say from which, 1 or 2; list, find and newest have --since T, --until T, -n N,
+--reverse, --fields A,B, --no-header and -o tsv, csv or json. A wall time T is
+like '2026-11-15 14:23:44.5 +0100'; help list has more. Bytes that do not print
 show as \\xNN, a backslash as \\\\. Status: 0 done; 1 not found or failed; 2 typed
 wrongly; 3 file refused; 4 entry or new file refused; 5 file full; 6 lock taken.
 ";
@@ -75,7 +75,7 @@ array of its bytes.
     };
 }
 
-const EACH: [(&str, &str); 10] = [
+const EACH: [(&str, &str); 11] = [
     (
         "list",
         concat!(
@@ -157,6 +157,25 @@ entry, field or value that is printed.
   --no-header            without the line of headings
 
 Each is looked for from the start of the file: thousands of them take long.
+",
+    ),
+    (
+        "room",
+        "\
+room --entries N NAME=BYTES[/VALUES] ..: how many bytes a file takes that holds
+N entries with these fields. The values of NAME have BYTES bytes, and VALUES of
+them come in turn; where VALUES is not given, each entry has a new one.
+
+  --size 64K             the length of the file, 8M if not given; where that is
+                         too short, the last line says how many entries it holds
+  --data-cells N, --field-cells N
+                         the cells of its hash tables, if not as new makes them
+  --header-size N        256 or 272; 256 if not given
+
+The numbers are those of a file that new made and append alone writes. Arrays
+have room for entries to come: room is for how many, those that are there
+included, and at most is what it never passes: 2n + 2 with n entries in the
+file, and 2n for each DATA, a NAME with its value, that n entries hold.
 ",
     ),
     (

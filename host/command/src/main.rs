@@ -7,6 +7,7 @@ mod answer;
 mod append;
 mod appends;
 mod arguments;
+mod arrays;
 mod batch;
 mod beside;
 mod calendar;
@@ -26,15 +27,19 @@ mod ids;
 mod json;
 mod lines;
 mod new;
+mod parts;
 mod payload;
 mod planned;
 mod questions;
 mod read;
 mod redo;
+mod room;
 mod selection;
 mod separated;
 mod settle;
+mod shape;
 mod signals;
+mod sizes;
 mod source;
 mod stamps;
 mod system;
@@ -106,6 +111,7 @@ fn carry_out(command: Command) -> Result<(), Fault> {
         Command::Values { files, name } => read::values(files, &name, &mut out)?,
         Command::Check { file } => check::check(&file, &mut out)?,
         Command::Foreign { file, form } => foreign::foreign(&file, &form, &mut out)?,
+        Command::Room(shape) => room::room(&shape, &mut out)?,
         // What these say is said by themselves: it is no answer that could be asked for again.
         Command::Write(write) => return writes::carry_out(write),
     }

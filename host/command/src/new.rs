@@ -2,34 +2,28 @@
 use crate::done::{self, Manner};
 use crate::fault::Fault;
 use crate::ids::{self, Id};
+use crate::sizes::{Sizes, HEADER_SIZE};
 use crate::{fresh, signals, why_new};
 use std::path::Path;
 use wrapper::LONGEST_IMAGE;
 
 /// What was asked for; the rest is chosen here.
 pub struct Wish {
-    pub size: Option<u64>,
-    pub data_cells: Option<u64>,
-    pub field_cells: Option<u64>,
+    pub sizes: Sizes,
     pub unkeyed: bool,
-    /// In bytes.
-    pub header_size: Option<u64>,
     pub machine: Option<Id>,
     pub boot: Option<Id>,
     /// Files of one such id go on with each other's sequence numbers.
     pub seqnum_id: Option<Id>,
 }
 
-/// A longer header goes with compatible bit 1, and journalctl of systemd 252 verifies no file that
-/// has it.
-const HEADER_SIZE: u64 = 256;
-
 pub fn new(path: &Path, wish: &Wish, manner: &Manner) -> Result<(), Fault> {
-    let size = wish.size.unwrap_or(LONGEST_IMAGE);
-    // A cell for each KiB, and one for a field for each 16: some hundredth of the file.
-    let data_cells = wish.data_cells.unwrap_or((size / 1_024).max(1));
-    let field_cells = wish.field_cells.unwrap_or((size / 16_384).max(1));
-    let header_size = wish.header_size.unwrap_or(HEADER_SIZE);
+    let &Sizes {
+        size,
+        data_cells,
+        field_cells,
+        header_size,
+    } = &wish.sizes;
     let machine = wish.machine.map_or_else(ids::machine, Ok)?;
     let boot = wish.boot.map_or_else(ids::boot, Ok)?;
     let file_id = ids::random()?;
@@ -49,12 +43,10 @@ pub fn new(path: &Path, wish: &Wish, manner: &Manner) -> Result<(), Fault> {
         !wish.unkeyed,
         header_size,
     );
-    made.map_err(
-        |refusal| match why_new::of(size, data_cells, field_cells, header_size) {
-            Some(why) => Fault::because(path, refusal, &why),
-            None => Fault::refused(path, refusal),
-        },
-    )?;
+    made.map_err(|refusal| match why_new::of(&wish.sizes) {
+        Some(why) => Fault::because(path, refusal, &why),
+        None => Fault::refused(path, refusal),
+    })?;
     signals::held(|| {
         fresh::kept(path, &image, fresh::MODE)?;
         let hash = if wish.unkeyed { "unkeyed" } else { "keyed" };

@@ -1,15 +1,20 @@
 //! Why a new file is refused, 20: the size, the cells or the header.
+use crate::sizes::Sizes;
 use crate::text::counted;
 use wrapper::LONGEST_IMAGE;
 
-/// The two tables without their cells; a cell has 16 bytes.
-const WITHOUT_CELLS: u64 = 2 * 16;
 const HEADER_SIZES: [u64; 2] = [256, 272];
 const MOST_DATA_CELLS: u64 = 65_536;
 const MOST_FIELD_CELLS: u64 = 1_024;
 
 /// A sentence for a person; none where nothing is the matter.
-pub fn of(size: u64, data_cells: u64, field_cells: u64, header_size: u64) -> Option<String> {
+pub fn of(sizes: &Sizes) -> Option<String> {
+    let &Sizes {
+        size,
+        data_cells,
+        field_cells,
+        header_size,
+    } = sizes;
     let cells = |option: &str, count: u64, most: u64| {
         let wrong = !(1..=most).contains(&count);
         wrong.then(|| format!("{option} {count}: a file has 1 to {most} of them"))
@@ -32,7 +37,7 @@ pub fn of(size: u64, data_cells: u64, field_cells: u64, header_size: u64) -> Opt
             })
         })
         .or_else(|| {
-            let need = header_size + WITHOUT_CELLS + 16 * (data_cells + field_cells);
+            let need = sizes.without_entries();
             let [data, field] =
                 [(data_cells, "data"), (field_cells, "field")].map(|(count, kind)| {
                     counted(

@@ -3,9 +3,10 @@ use crate::arguments::{id, number};
 use crate::done::Manner;
 use crate::fault::Fault;
 use crate::files::PATIENCE;
+use crate::sizes::{self, Sizes};
 use crate::words::Words;
 use crate::{append, appends, batch, copy, new};
-use std::ffi::{OsStr, OsString};
+use std::ffi::OsString;
 use std::path::PathBuf;
 use std::time::Duration;
 
@@ -43,22 +44,11 @@ pub fn command(name: &str, rest: &[OsString]) -> Result<Write, Fault> {
 
 fn new_file(rest: &[OsString]) -> Result<Write, Fault> {
     let (rest, [unkeyed, quiet]) = flags(rest, ["--unkeyed", "--quiet"]);
-    let names = [
-        "--size",
-        "--data-cells",
-        "--field-cells",
-        "--header-size",
-        "--machine",
-        "--boot",
-        "--seqnum-id",
-    ];
-    let words = Words::new(&rest, &names)?;
+    let own = ["--machine", "--boot", "--seqnum-id"];
+    let words = Words::new(&rest, &[&sizes::NAMES[..], &own].concat())?;
     let wish = new::Wish {
-        size: words.option("--size", size)?,
-        data_cells: words.option("--data-cells", number)?,
-        field_cells: words.option("--field-cells", number)?,
+        sizes: Sizes::new(&words)?,
         unkeyed,
-        header_size: words.option("--header-size", number)?,
         machine: words.option("--machine", id)?,
         boot: words.option("--boot", id)?,
         seqnum_id: words.option("--seqnum-id", id)?,
@@ -101,23 +91,4 @@ pub fn flags<const N: usize>(words: &[OsString], names: [&str; N]) -> (Vec<OsStr
         .iter()
         .filter(|word| !names.iter().any(|name| *word == name));
     (others.chain(plain).cloned().collect(), given)
-}
-
-/// Bytes, or KiB or MiB with K or M after the number.
-fn size(value: &OsStr) -> Result<u64, String> {
-    let text = value.to_string_lossy();
-    let (digits, unit) = match text.strip_suffix('K') {
-        Some(digits) => (digits, 1 << 10),
-        None => text
-            .strip_suffix('M')
-            .map_or((&*text, 1), |digits| (digits, 1 << 20)),
-    };
-    let wrong = "no size: it is bytes, or like 64K or 8M".to_string();
-    let right = !digits.is_empty() && digits.bytes().all(|byte| byte.is_ascii_digit());
-    if !right {
-        return Err(wrong);
-    }
-    let number = digits.parse::<u64>().ok();
-    let bytes = number.and_then(|number| number.checked_mul(unit));
-    bytes.ok_or("above 2^64 - 1".to_string())
 }

@@ -22,4 +22,5 @@ pub mod refusal;
 pub mod request;
 pub mod room;
 pub mod siphash;
+pub mod sizing;
 pub mod tail;

@@ -1,9 +1,17 @@
 //! Help, of all and of each command, and the version.
 use crate::person::{folder, made, program, said};
 
-const COMMANDS: [&str; 10] = [
-    "list", "show", "find", "newest", "values", "check", "foreign", "new", "append", "copy",
+const COMMANDS: [&str; 11] = [
+    "list", "show", "find", "newest", "values", "check", "foreign", "room", "new", "append", "copy",
 ];
+
+/// A command with the first of what is typed after it.
+fn start(command: &str) -> String {
+    match command {
+        "room" => "room --entries N NAME=BYTES".to_string(),
+        _ => format!("{command} FILE"),
+    }
+}
 
 fn text(words: &[&str]) -> String {
     let text = said(program().args(words)).done();
@@ -18,7 +26,7 @@ fn text(words: &[&str]) -> String {
 fn a_screen_of_all() {
     let all = text(&["--help"]);
     for command in COMMANDS {
-        let start = format!("\n  {command} FILE");
+        let start = format!("\n  {}", start(command));
         assert!(all.contains(&start), "{command}");
     }
     assert!(all.contains("\n  append --batch FILE "));
@@ -39,7 +47,7 @@ fn a_screen_of_all() {
 fn of_each_command() {
     for command in COMMANDS {
         let own = text(&["help", command]);
-        assert!(own.starts_with(&format!("{command} FILE")), "{own}");
+        assert!(own.starts_with(&start(command)), "{own}");
         assert_eq!(text(&[command, "--help"]), own);
         assert_eq!(text(&[command, "-h"]), own);
         assert_eq!(
@@ -68,6 +76,7 @@ fn options() {
         "--fields",
         "-o",
         "--no-header",
+        "--entries",
         "--size",
         "--data-cells",
         "--field-cells",
@@ -103,7 +112,7 @@ fn options() {
             }
         }
     }
-    assert_eq!(taken.len(), 7 + 10 + 7 + 2 + 9 + 11 + 2, "{taken:?}");
+    assert_eq!(taken.len(), 7 + 10 + 7 + 2 + 5 + 9 + 11 + 2, "{taken:?}");
 }
 
 /// After `--` it is a name.

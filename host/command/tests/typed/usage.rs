@@ -85,6 +85,15 @@ fn wrong_words() {
             &["foreign", file, "-o", "xml"],
             "-o xml: it is table, tsv, csv or json (",
         ),
+        (
+            &["room"],
+            "the command is room --entries N NAME=BYTES[/VALUES] .. and ",
+        ),
+        (
+            &["room", "A=1"],
+            "the command is room --entries N NAME=BYTES[/VALUES] .. and ",
+        ),
+        (&["room", "--entries", "9", "-o", "tsv"], "no option -o"),
         (&["new"], "the command is new FILE and options"),
         (
             &["new", other, other],
