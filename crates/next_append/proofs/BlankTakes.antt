@@ -30,7 +30,7 @@ use Rattle.partial_append.proofs.Passing.{Passes, passed}
 use Rattle.next_append.specs.Next.{TakesAppends}
 use Rattle.next_append.specs.Blank.{Blank}
 use Rattle.next_append.proofs.Taking.{state-of-word, takes-appends}
-use Rattle.next_append.proofs.AgreementSays.{CountersRight, counters-clear, late-clear, tails-clear, data-tails-clear}
+use Rattle.writing.proofs.AgreementSays.{CountersRight, counters-clear, late-clear, tails-clear, data-tails-clear}
 use Rattle.next_append.proofs.BlankFrame.{two-objects, frame-clear, none-of-kind, none-foreign}
 
 module _ {img : Image} {dataCells fieldCells : ℕ} (b : Blank img dataCells fieldCells) where

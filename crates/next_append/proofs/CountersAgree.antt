@@ -13,7 +13,7 @@ use Rattle.writing.specs.Growth.{grown}
 use Rattle.plan_words.specs.Planned.{newBy}
 use Rattle.next_append.specs.Settled.{Settled}
 use Rattle.next_append.proofs.ObjectCounts.{brought-many, arrays-many}
-use Rattle.next_append.proofs.AgreementSays.{CountersRight, counters-clear}
+use Rattle.writing.proofs.AgreementSays.{CountersRight, counters-clear}
 
 module _ {F F′ : File} {r : Request} (s : Settled F F′ r) where
   -- the objects of a kind are as many as before and the new ones

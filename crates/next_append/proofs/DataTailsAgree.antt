@@ -25,7 +25,7 @@ use Rattle.plan_words.proofs.Placing.{Placing}
 use Rattle.plan_words.proofs.Items.{item-old}
 use Rattle.plan_words.proofs.NewPlanned.{new-tail}
 use Rattle.next_append.specs.Settled.{TailKept, tail-of, tail-as-was, Settled}
-use Rattle.next_append.proofs.AgreementSays.{data-tails-clear}
+use Rattle.writing.proofs.AgreementSays.{data-tails-clear}
 use Rattle.next_append.proofs.TailsGrown.{after-value, tail-grown}
 
 module _ {F F′ : File} {r : Request} (s : Settled F F′ r) (t : Takes F) (pl : Placing F (placed F (r .fields)))

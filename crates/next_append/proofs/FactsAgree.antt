@@ -24,7 +24,7 @@ use Rattle.partial_append.proofs.EntryCommitted.{one-more}
 use Rattle.plan_words.specs.Planned.{newBy}
 use Rattle.plan_words.specs.Takes.{Takes}
 use Rattle.next_append.specs.Settled.{Settled}
-use Rattle.next_append.proofs.AgreementSays.{FactsRight, facts-clear}
+use Rattle.writing.proofs.AgreementSays.{FactsRight, facts-clear}
 
 module _ {F F′ : File} {r : Request} (s : Settled F F′ r) (t : Takes F) (x : Extends F F′ (newBy F (r .fields)) (newEntryAt F (r .fields)))
     (g : Commits F F′ (newBy F (r .fields)) (newEntryAt F (r .fields))) where

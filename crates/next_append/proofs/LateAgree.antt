@@ -21,7 +21,7 @@ use Rattle.plan_words.specs.Takes.{Takes}
 use Rattle.plan_words.proofs.Placing.{Placing}
 use Rattle.plan_words.proofs.Extending.{grown-from}
 use Rattle.next_append.specs.Settled.{Settled}
-use Rattle.next_append.proofs.AgreementSays.{late-clear}
+use Rattle.writing.proofs.AgreementSays.{late-clear}
 use Rattle.next_append.proofs.TailsGrown.{tail-grown}
 
 module _ {F F′ : File} {r : Request} (s : Settled F F′ r) (t : Takes F) (pl : Placing F (placed F (r .fields)))

@@ -7,7 +7,6 @@ pub mod CellLasts
 pub mod CellTails
 pub mod DataTails
 pub mod SettledAfter
-pub mod AgreementSays
 pub mod CountersAgree
 pub mod FactsAgree
 pub mod TailsGrown

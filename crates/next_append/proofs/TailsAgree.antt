@@ -25,7 +25,7 @@ use Rattle.partial_append.proofs.CellsKept.{newChain, seamLink, cell-split, cel
 use Rattle.partial_append.proofs.NewReached.{cell-grown}
 use Rattle.plan_words.specs.Planned.{newBy}
 use Rattle.next_append.specs.Settled.{lastOr, Settled}
-use Rattle.next_append.proofs.AgreementSays.{tails-clear}
+use Rattle.writing.proofs.AgreementSays.{tails-clear}
 
 -- a list without members is empty
 no-members : (xs : List ℕ) → ((y : ℕ) → In y xs → ⊥) → xs ≡ []

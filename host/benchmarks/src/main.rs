@@ -1,6 +1,6 @@
 //! Times the archive against plain Rust: `cargo run --offline --release -p benchmarks`.
-//! Sections are `hashes`, `frame`, `open`, `compact`, `append`, `tray`, `lookups`, `listing`, `merged` and
-//! `hostile`; with their names only those are run.
+//! Sections are `hashes`, `frame`, `open`, `compact`, `append`, `tray`, `lookups`, `readers`, `listing`,
+//! `merged` and `hostile`; with their names only those are run.
 //!
 //! A ratio of 1.0 or more means that the archive is at least as fast as plain Rust.
 mod append;
@@ -18,6 +18,7 @@ mod objects;
 mod open;
 mod plain;
 mod process;
+mod readers;
 mod timing;
 mod tray;
 
@@ -30,7 +31,7 @@ use wrapper::raw;
 
 fn main() {
     let asked: Vec<String> = std::env::args().skip(1).collect();
-    let sections: [(&str, fn()); 10] = [
+    let sections: [(&str, fn()); 11] = [
         ("hashes", hashes),
         ("frame", frame::frame),
         ("open", open::open),
@@ -38,6 +39,7 @@ fn main() {
         ("append", append::append),
         ("tray", tray::tray),
         ("lookups", lookups::lookups),
+        ("readers", readers::readers),
         ("listing", listing::listing),
         ("merged", merged::merged),
         ("hostile", hostile::hostile),

@@ -79,12 +79,25 @@ fn lookups(image: &[u8]) {
     assert_eq!(wrapper::foreign(image, 0), Ok(None));
 }
 
+/// The same by the plain reader.
+fn plain_lookups(image: &[u8]) {
+    use wrapper::plain::{by_payload, by_realtime, by_seqnum, entry, item, value};
+    let second = entry(image, 1).expect("it is read").expect("an entry");
+    assert_eq!(by_seqnum(image, 2), Ok(Some(second)));
+    assert_eq!(by_realtime(image, 2), Ok(Some(second)));
+    assert_eq!(by_payload(image, b"PRIORITY=2", 1), Ok(Some(second)));
+    let payload = item(image, second, 0);
+    assert_eq!(payload, Some(&b"PRIORITY=2"[..]));
+    assert_eq!(value(image, b"PRIORITY", 0), payload);
+}
+
 #[test]
 fn a_small_stack() {
     for keyed in [false, true] {
         let image = within(PLAN, move || appends(keyed));
-        let planned = image.clone();
+        let (planned, walked) = (image.clone(), image.clone());
         within(BATCH, move || batches(&planned));
+        within(READING, move || plain_lookups(&walked));
         within(READING, move || lookups(&image));
     }
 }

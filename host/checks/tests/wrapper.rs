@@ -1,4 +1,6 @@
 //! The wrapper's typed answers are the archive's numbers: nothing is lost and nothing is made up.
+use checks::against;
+use checks::against::lookups::Words;
 use checks::corpus::{self, FILES};
 use checks::generator::any::any;
 use checks::generator::mutation::targeted;
@@ -27,7 +29,23 @@ fn part(image: &[u8], shown: Option<&[u8]>) -> raw::Part {
     })
 }
 
-/// Asks every lookup, one question in `step`.
+/// What the wrapper's plain reader says, in the archive's words.
+fn plain(image: &[u8], question: &Question) -> Words {
+    use wrapper::plain::{by_payload, by_realtime, by_seqnum, entry, item, value};
+    let shown = |payload| Words::Part(part(image, payload));
+    match question {
+        Question::Entry(place) => Words::Number(number(entry(image, *place))),
+        Question::FirstSeqnum(seqnum) => Words::Number(number(by_seqnum(image, *seqnum))),
+        Question::FirstRealtime(realtime) => Words::Number(number(by_realtime(image, *realtime))),
+        Question::Holding(payload, place) => {
+            Words::Number(number(by_payload(image, payload, *place)))
+        }
+        Question::Item(at, place) => shown(item(image, Offset(*at), *place)),
+        Question::Payload(name, place) => shown(value(image, name, *place)),
+    }
+}
+
+/// Asks every lookup of both readers, one question in `step`.
 fn same_lookups(image: &[u8], step: usize) {
     let mut arguments = Arguments::default();
     let opened = open(image);
@@ -65,6 +83,10 @@ fn same_lookups(image: &[u8], step: usize) {
                 assert_eq!(part(image, answer), raw::value(image, name, *place));
             }
         }
+        assert_eq!(
+            plain(image, question),
+            against::plain::archive(image, question)
+        );
     }
     arguments.offsets.extend([0, 256, u64::MAX]);
     for &at in arguments.offsets.iter().step_by(step) {

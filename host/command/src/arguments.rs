@@ -56,6 +56,9 @@ pub fn command(words: &[OsString]) -> Result<Command, Fault> {
         return Err(Fault::usage("a command is missing"));
     };
     let name = &*name.to_string_lossy();
+    if name == "--plain" {
+        return plain(command(rest)?);
+    }
     if let Some(text) = help::asked_for(words) {
         return text.map(Command::Help);
     }
@@ -78,6 +81,28 @@ pub fn command(words: &[OsString]) -> Result<Command, Fault> {
             shown(name.as_bytes())
         ))),
     }
+}
+
+/// The same command by the plain reader, which has the lookups alone.
+fn plain(command: Command) -> Result<Command, Fault> {
+    Ok(match command {
+        Command::List { files, which, form } => Command::List {
+            files: files.plain()?,
+            which,
+            form,
+        },
+        Command::Find { files, by, form } => Command::Find {
+            files: files.plain()?,
+            by,
+            form,
+        },
+        Command::Values { files, name } => Command::Values {
+            files: files.plain()?,
+            name,
+        },
+        Command::Help(text) => Command::Help(text),
+        _ => return Err(Fault::usage("--plain goes with list, find and values")),
+    })
 }
 
 pub fn number(value: &OsStr) -> Result<u64, String> {

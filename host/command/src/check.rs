@@ -2,6 +2,7 @@
 //! its header is, what was walked over, and a redo list beside it.
 use crate::fault::Fault;
 use crate::files::PATIENCE;
+use crate::image::{is_compact, word};
 use crate::text::counted;
 use crate::{files, foreign, ids};
 use std::io::Write;
@@ -30,12 +31,6 @@ pub fn check(file: &Path, out: &mut impl Write) -> Result<(), Fault> {
     out.write_all(lines.as_bytes()).map_err(Fault::answer)
 }
 
-/// The 64-bit number at a place of a file that opens.
-fn word(image: &[u8], at: u64) -> u64 {
-    let bytes = &image[at as usize..][..8];
-    u64::from_le_bytes(bytes.try_into().expect("8 bytes"))
-}
-
 /// How long the header is, whether the file is compact, and what its boot id means. Nothing says that the id is right.
 fn header(image: &[u8]) -> Result<String, Refusal> {
     let boot = match wrapper::boot_meaning(image)? {
@@ -45,11 +40,6 @@ fn header(image: &[u8]) -> Result<String, Refusal> {
     let compact = if is_compact(image) { ", compact" } else { "" };
     let size = word(image, HEADER_SIZE);
     Ok(format!("header: {size} bytes{compact}; {boot}"))
-}
-
-/// Incompatible bit 4, of a file that opens.
-fn is_compact(image: &[u8]) -> bool {
-    image[12] & 16 != 0
 }
 
 /// What keeps any entry from being appended, if something does: the library is asked for the stores

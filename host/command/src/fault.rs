@@ -16,7 +16,7 @@ mod status {
     /// Not found, or the system refuses.
     pub const FAILED: u8 = 1;
     pub const TYPED_WRONGLY: u8 = 2;
-    /// The file can't be read: 1 to 11.
+    /// The file can't be read: 1 to 11, and by the plain reader 14.
     pub const UNREADABLE: u8 = 3;
     /// The file or the entry is not one to append, the new file not one to make: 12 to 17, 20, 25.
     pub const NOT_TAKEN: u8 = 4;
@@ -25,6 +25,10 @@ mod status {
     /// Another program has the file's lock.
     pub const BUSY: u8 = 6;
 }
+
+const ONLY_PLAINLY: &str =
+    "the file's counters or indexes do not agree with its entries, as after an append that was cut \
+     off, and the plain reader takes no such file: read it without --plain";
 
 impl Fault {
     /// What was typed is not how the program is used.
@@ -58,6 +62,17 @@ impl Fault {
     pub fn refused(file: &Path, refusal: Refusal) -> Fault {
         let why = why_file::of(file, refusal);
         Fault::because(file, refusal, why.as_deref().unwrap_or(refusal.sentence()))
+    }
+
+    /// The plain reader refuses. 14 keeps it from reading, and not the other one.
+    pub fn refused_plainly(file: &Path, refusal: Refusal) -> Fault {
+        match refusal.number() {
+            14 => Fault {
+                status: status::UNREADABLE,
+                ..Fault::because(file, refusal, ONLY_PLAINLY)
+            },
+            _ => Fault::refused(file, refusal),
+        }
     }
 
     /// The same, with the sentence that a person reads first.

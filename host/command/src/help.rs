@@ -29,7 +29,6 @@ pub fn asked_for(words: &[OsString]) -> Option<Result<&'static str, Fault>> {
 
 const ALL: &str = "\
 journal: reads and writes systemd journal files of at most 8 MiB
-
   list FILE                      a line for each committed entry
   show FILE SEQNUM               one entry with all its fields; also: last
   find FILE --seqnum N           the first entry with this number or above
@@ -45,6 +44,7 @@ journal: reads and writes systemd journal files of at most 8 MiB
   append --batch FILE            an entry for each line of standard input
   copy FILE TO                   a copy without half an append in it
   help COMMAND                   all of one command, with its options
+  --plain COMMAND                list, find and values by a plain reader, slowly
 
 list, show, find, newest and values take FILE FILE2 too, read as one stream, and
 say from which, 1 or 2; list, find and newest have --since T, --until T, -n N,
@@ -75,6 +75,15 @@ array of its bytes.
     };
 }
 
+/// What `list`, `find` and `values` have in another way.
+macro_rules! plain {
+    () => {
+        "With --plain before the command: by a plain reader, of one file, without its
+indexes. It is slow: the file is judged anew for each answer, and must pass 14.
+"
+    };
+}
+
 const EACH: [(&str, &str); 11] = [
     (
         "list",
@@ -84,7 +93,8 @@ list FILE [FILE2]: a line for each committed entry, in order; of two files as
 one stream, with the number of the file
 
 ",
-            options!()
+            options!(),
+            plain!()
         ),
     ),
     (
@@ -109,7 +119,8 @@ of several --field all of them. NAME=VALUE is typed as it is printed: \\xNN is a
 byte, \\\\ a backslash, and no other backslash is taken.
 
 ",
-            options!()
+            options!(),
+            plain!()
         ),
     ),
     (
@@ -126,7 +137,8 @@ of their stream. More of that entry: newest FILE LOT --fields RESULT
     ),
     (
         "values",
-        "\
+        concat!(
+            "\
 values FILE [FILE2] NAME: the values of a field, each once. They are by falling
 DATA offset: the value that first appeared last comes first. That is not the one
 of the newest entry; newest FILE NAME has that one first.
@@ -134,6 +146,8 @@ of the newest entry; newest FILE NAME has that one first.
 Of two files: those of the first, then those that only the second has.
 A line can be given back: find FILE --field \"NAME=$line\" (read it by read -r).
 ",
+            plain!()
+        ),
     ),
     (
         "check",

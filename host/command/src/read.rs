@@ -1,5 +1,5 @@
 //! The commands that only read: `list`, `show`, `find`, `newest` and `values`, of one file or of two
-//! as one stream.
+//! as one stream; `list`, `find` and `values` also by the plain reader.
 use crate::fault::Fault;
 use crate::form::Form;
 use crate::questions::{By, Wanted};
@@ -18,7 +18,7 @@ pub fn list(
     out: &mut impl Write,
 ) -> Result<(), Fault> {
     let source = Source::read(files)?;
-    let rows = which.last(which.span(source.entries()?), false);
+    let rows = source.shown(which.last(which.span(source.entries()?), false));
     let printed = form.print(&rows, source.is_two(), out);
     printed.map_err(Fault::answer)
 }
@@ -69,7 +69,7 @@ pub fn find(files: Files, by: &By, form: &Form, out: &mut impl Write) -> Result<
     match rows[..] {
         [] => Err(source.fault(format!("no entry {}", looked_for(by)))),
         _ => form
-            .print(&rows, source.is_two(), out)
+            .print(&source.shown(rows), source.is_two(), out)
             .map_err(Fault::answer),
     }
 }

@@ -1,7 +1,7 @@
-//! What is read: one file, or two as one stream.
+//! What is read: one file, or two as one stream, or one by the plain reader.
 use crate::fault::Fault;
-use crate::files;
 use crate::words::Files;
+use crate::{files, plain};
 use std::collections::HashSet;
 use std::path::PathBuf;
 use wrapper::{Entry, Offset, Refusal, Which};
@@ -16,6 +16,7 @@ pub struct Row<'a> {
 pub enum Source {
     One(PathBuf, Vec<u8>),
     Two([PathBuf; 2], [Vec<u8>; 2]),
+    Plain(PathBuf, Vec<u8>),
 }
 
 impl Source {
@@ -29,6 +30,10 @@ impl Source {
                 let images = [files::read(&files[0])?, files::read(&files[1])?];
                 Ok(Source::Two(files, images))
             }
+            Files::Plain(file) => {
+                let image = files::read(&file)?;
+                Ok(Source::Plain(file, image))
+            }
         }
     }
 
@@ -36,10 +41,12 @@ impl Source {
         matches!(self, Source::Two(..))
     }
 
-    /// All entries in order, of two files the stream.
+    /// All entries in order, of two files the stream. By the plain reader they come without their
+    /// payloads, and so do those that are found: `shown` has them.
     pub fn entries(&self) -> Result<Vec<Row<'_>>, Fault> {
         match self {
             Source::One(_, image) => self.of_one(wrapper::all_entries(image)),
+            Source::Plain(_, image) => self.of_one(plain::entries(image)),
             Source::Two(_, [first, second]) => {
                 let all = wrapper::all_merged(first, second)
                     .map_err(|refused| self.refused(refused.file, refused.refusal))?;
@@ -56,6 +63,7 @@ impl Source {
     pub fn from_seqnum(&self, seqnum: u64) -> Result<Option<Row<'_>>, Fault> {
         match self {
             Source::One(_, image) => self.at(wrapper::by_seqnum(image, seqnum)),
+            Source::Plain(_, image) => self.at(wrapper::plain::by_seqnum(image, seqnum)),
             Source::Two(..) => self.first(|entry| entry.seqnum >= seqnum),
         }
     }
@@ -64,6 +72,7 @@ impl Source {
     pub fn from_time(&self, realtime: u64) -> Result<Option<Row<'_>>, Fault> {
         match self {
             Source::One(_, image) => self.at(wrapper::by_realtime(image, realtime)),
+            Source::Plain(_, image) => self.at(wrapper::plain::by_realtime(image, realtime)),
             Source::Two(..) => self.first(|entry| entry.realtime >= realtime),
         }
     }
@@ -71,6 +80,7 @@ impl Source {
     /// The entries that hold all of some payloads.
     pub fn holding(&self, payloads: &[Vec<u8>]) -> Result<Vec<Row<'_>>, Fault> {
         let mut rows = match (self, payloads) {
+            (Source::Plain(_, image), _) => return self.of_one(plain::holding(image, payloads)),
             (Source::One(_, image), [payload, ..]) => {
                 self.of_one(wrapper::all_matches(image, payload))?
             }
@@ -81,19 +91,33 @@ impl Source {
         Ok(rows)
     }
 
+    /// The entries that are to be printed, with their payloads.
+    pub fn shown<'a>(&'a self, mut rows: Vec<Row<'a>>) -> Vec<Row<'a>> {
+        if let Source::Plain(_, image) = self {
+            for row in &mut rows {
+                row.entry.payloads = plain::payloads(image, row.entry.offset);
+            }
+        }
+        rows
+    }
+
     /// The payloads of a field by falling DATA offset; of two files the first's, and then those of
     /// the second that the first has not.
     pub fn values(&self, name: &[u8]) -> Result<Vec<(Option<Which>, &[u8])>, Fault> {
-        let of = |file: Which, image| {
-            wrapper::all_values(image, name).map_err(|refusal| self.refused(file, refusal))
+        let of = |file: Which, all: Result<Vec<_>, Refusal>| {
+            all.map_err(|refusal| self.refused(file, refusal))
         };
+        let without_file = |all: Vec<_>| all.into_iter().map(|it| (None, it)).collect();
         match self {
             Source::One(_, image) => {
-                let all = of(Which::First, image)?;
-                Ok(all.into_iter().map(|payload| (None, payload)).collect())
+                of(Which::First, wrapper::all_values(image, name)).map(without_file)
+            }
+            Source::Plain(_, image) => {
+                of(Which::First, plain::values(image, name)).map(without_file)
             }
             Source::Two(_, [first, second]) => {
-                let (first, mut second) = (of(Which::First, first)?, of(Which::Second, second)?);
+                let first = of(Which::First, wrapper::all_values(first, name))?;
+                let mut second = of(Which::Second, wrapper::all_values(second, name))?;
                 let known: HashSet<&[u8]> = first.iter().copied().collect();
                 second.retain(|payload| !known.contains(payload));
                 let first = first.into_iter().map(|it| (Some(Which::First), it));
@@ -106,7 +130,7 @@ impl Source {
     /// What is the matter with what was read.
     pub fn fault(&self, words: impl AsRef<str>) -> Fault {
         match self {
-            Source::One(file, _) => Fault::of(file, words),
+            Source::One(file, _) | Source::Plain(file, _) => Fault::of(file, words),
             Source::Two(files, _) => Fault::of_both(files, words),
         }
     }
@@ -115,6 +139,7 @@ impl Source {
     fn refused(&self, file: Which, refusal: Refusal) -> Fault {
         match self {
             Source::One(file, _) => Fault::refused(file, refusal),
+            Source::Plain(file, _) => Fault::refused_plainly(file, refusal),
             Source::Two([first, second], _) => Fault::refused(file.of(first, second), refusal),
         }
     }
@@ -127,9 +152,14 @@ impl Source {
 
     /// The entry that a lookup in one file answers by its offset.
     fn at(&self, answer: Result<Option<Offset>, Refusal>) -> Result<Option<Row<'_>>, Fault> {
-        match answer.map_err(|refusal| self.refused(Which::First, refusal))? {
-            Some(offset) => self.first(|entry| entry.offset == offset),
-            None => Ok(None),
+        let answer = answer.map_err(|refusal| self.refused(Which::First, refusal))?;
+        match (answer, self) {
+            (Some(offset), Source::Plain(_, image)) => Ok(Some(Row {
+                file: None,
+                entry: plain::at(image, offset),
+            })),
+            (Some(offset), _) => self.first(|entry| entry.offset == offset),
+            (None, _) => Ok(None),
         }
     }
 

@@ -11,10 +11,22 @@ pub struct Words {
     pub plain: Vec<OsString>,
 }
 
-/// One file, or two that are read as one stream.
+/// One file, or two that are read as one stream, or one for the plain reader.
 pub enum Files {
     One(PathBuf),
     Two([PathBuf; 2]),
+    Plain(PathBuf),
+}
+
+impl Files {
+    /// The same for the plain reader, which takes one.
+    pub fn plain(self) -> Result<Files, Fault> {
+        match self {
+            Files::One(file) => Ok(Files::Plain(file)),
+            Files::Two(_) => Err(Fault::usage("--plain reads one file, and not two")),
+            Files::Plain(_) => Err(Fault::usage("--plain is given twice")),
+        }
+    }
 }
 
 /// Options that have no value, and those that may be given several times.
@@ -39,7 +51,7 @@ impl Words {
             }
             let (typed, value) = name_and_value(bytes);
             let Some(&name) = names.iter().find(|name| name.as_bytes() == typed) else {
-                return Err(Fault::usage(format!("no option {}", shown(typed))));
+                return Err(no_option(typed));
             };
             if !SEVERAL.contains(&name) && options.iter().any(|&(other, _)| other == name) {
                 return Err(Fault::usage(format!("{name} is given twice")));
@@ -121,6 +133,14 @@ fn name_and_value(word: &[u8]) -> (&[u8], Option<&[u8]>) {
         }
         (_, Some(end)) => (&word[..end], Some(&word[end + 1..])),
         (_, None) => (word, None),
+    }
+}
+
+/// A command has no such option.
+fn no_option(typed: &[u8]) -> Fault {
+    match typed {
+        b"--plain" => Fault::usage("--plain stands before the command"),
+        _ => Fault::usage(format!("no option {}", shown(typed))),
     }
 }
 

@@ -17,6 +17,7 @@ pub mod merged;
 pub mod merged_answers;
 pub mod new_file;
 pub mod pages;
+pub mod plain;
 pub mod plan;
 pub mod refusal;
 pub mod request;

@@ -1,6 +1,6 @@
 //! A safe wrapper over `libjournal.a`, the proved archive: each of its calls as a function of the
 //! same name without the prefix `journal_`, with slices as arguments and with answers that have
-//! types.
+//! types. Those of the plain reader, `journal_plain_`, are in `plain`.
 //!
 //! Over them: `entries` and `stream` show all entries one after the other, and `foreign_objects` all
 //! objects that are walked over; `Fields` packs the fields of an append and `Batch` the entries of a
@@ -18,6 +18,7 @@ mod foreign;
 mod lookups;
 mod merged;
 mod pages;
+pub mod plain;
 pub mod raw;
 mod records;
 mod refusal;

@@ -75,14 +75,15 @@ pub fn stamps(image: &[u8], entry: Offset) -> Result<Option<Stamps>, Refusal> {
 }
 
 /// An entry's offset, 0 for none, or a refusal.
-fn found(number: u64) -> Result<Option<Offset>, Refusal> {
+pub(crate) fn found(number: u64) -> Result<Option<Offset>, Refusal> {
     match number {
         FIRST_OFFSET.. => Ok(Some(Offset(number))),
         _ => Refusal::check(number).map(|()| None),
     }
 }
 
-fn shown(image: &[u8], part: raw::Part) -> Option<&[u8]> {
+/// The bytes of a part; none of the empty one.
+pub(crate) fn shown(image: &[u8], part: raw::Part) -> Option<&[u8]> {
     let (at, len) = (part.at as usize, part.len as usize);
     (len > 0).then(|| &image[at..at + len])
 }

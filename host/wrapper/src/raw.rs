@@ -10,6 +10,7 @@ mod batch;
 mod boot;
 mod foreign;
 mod merged;
+pub mod plain;
 
 use crate::call;
 pub use batch::{plan_batch, Batch};

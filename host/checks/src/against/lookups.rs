@@ -11,6 +11,13 @@ pub enum Words {
     Part(raw::Part),
 }
 
+impl Words {
+    /// Whether nothing was found; so it is of a part that is refused, too.
+    pub fn is_none(&self) -> bool {
+        [Words::Number(0), Words::Part(raw::Part::default())].contains(self)
+    }
+}
+
 /// The archive's answer.
 pub fn archive(image: &[u8], question: &Question) -> Words {
     match question {
@@ -24,20 +31,44 @@ pub fn archive(image: &[u8], question: &Question) -> Words {
 }
 
 /// Whether a question is answered by a part of the image.
-pub fn shows(question: &Question) -> bool {
+fn shows(question: &Question) -> bool {
     matches!(question, Question::Item(..) | Question::Payload(..))
+}
+
+/// Which lookup a question is: entry, seqnum, realtime, payload, item or value.
+pub fn lookup(question: &Question) -> usize {
+    match question {
+        Question::Entry(_) => 0,
+        Question::FirstSeqnum(_) => 1,
+        Question::FirstRealtime(_) => 2,
+        Question::Holding(..) => 3,
+        Question::Item(..) => 4,
+        Question::Payload(..) => 5,
+    }
 }
 
 /// The reading's answer, of an image that opens.
 pub fn read(journal: &Journal, question: &Question) -> Words {
-    match ask(journal, question) {
+    words(question, ask(journal, question))
+}
+
+/// An answer of the reading in the archive's words.
+pub fn words(question: &Question, answer: Answer) -> Words {
+    match answer {
         Answer::Entry(offset) => Words::Number(offset),
         Answer::Shown(part) => Words::Part(raw::Part {
             at: part.place,
             len: part.length,
         }),
-        Answer::None if shows(question) => Words::Part(raw::Part::default()),
-        Answer::None => Words::Number(0),
+        Answer::None => refused(question, 0),
+    }
+}
+
+/// What is said of an image that is refused; and with 0, where there is nothing to answer.
+pub fn refused(question: &Question, number: u64) -> Words {
+    match shows(question) {
+        true => Words::Part(raw::Part::default()),
+        false => Words::Number(number),
     }
 }
 

@@ -9,6 +9,7 @@ pub mod lent;
 pub mod lookups;
 pub mod merged;
 pub mod orders;
+pub mod plain;
 pub mod plan;
 pub mod syncs;
 pub mod trial;

@@ -3,15 +3,19 @@
 //! `.. -- plan 1000000` works out so many appends and where to sync them, `.. -- cuts 1000` cuts so
 //! many appends everywhere and asks every lookup each time, `.. -- batch 100000` works out so many
 //! batches, `.. -- batch-cuts 100` cuts so many of them everywhere and asks one lookup in nine each time,
-//! `.. -- merged 10000` shows so many pairs of files as one stream, and `.. -- foreign 100000` names the
-//! foreign objects of so many images. A second number is the first seed. It ends with status 1 at the
-//! first difference, and leaves the image in a file, or the two images one after the other.
+//! `.. -- merged 10000` shows so many pairs of files as one stream, `.. -- foreign 100000` names the
+//! foreign objects of so many images, and `.. -- plain 10000` puts one question in nine to both readers of
+//! so many. A second number is the first seed. It ends with status 1 at the first difference, and leaves
+//! the image in a file, or the two images one after the other.
 use checks::against::batch::Batch;
 use checks::against::plan::{number, Append};
-use checks::against::{batch_cuts, cuts, foreign, merged};
+use checks::against::{batch_cuts, cuts, foreign, merged, plain};
 use checks::generator::dice::{between, once_in};
-use checks::generator::{any::any, appends, batches, pairs::pair};
+use checks::generator::questions::questions;
+use checks::generator::wider::of_refused;
+use checks::generator::{any::any, appends, batches, good, pairs::pair};
 use checks::random::Random;
+use reading::lookup;
 use reading::refusal::refusal;
 use std::time::Instant;
 use wrapper::raw;
@@ -29,6 +33,7 @@ fn main() {
             Some("batch-cuts") => ("batches at every cut", 10, cut_batch),
             Some("merged") => ("pairs of files", 10_000, stream),
             Some("foreign") => ("images by their foreign objects", 50_000, named),
+            Some("plain") => ("images by both readers", 5_000, both),
             _ => ("images", 50_000, open),
         };
     if what != "images" {
@@ -79,6 +84,24 @@ fn named(random: &mut Random) -> Compared {
     foreign::compare(&image, random.word() >> 8)
         .map(|answer| answer.err().unwrap_or(0))
         .map_err(|difference| (difference, image))
+}
+
+/// Of images of any kind, and of as many that an append takes.
+fn both(random: &mut Random) -> Compared {
+    let image = match once_in(random, 2) {
+        true => good::tidy(random).image,
+        false => any(random),
+    };
+    let opened = reading::plain::open(&image);
+    let all = match &opened {
+        Ok(_) => questions(&lookup::open(&image).expect("both readers take it")),
+        Err(number) => of_refused(&image, *number).0,
+    };
+    let first = random.below(9);
+    let some = Vec::from_iter(all.into_iter().skip(first).step_by(9));
+    plain::compare(&image, &opened, &some, random.word() >> 8)
+        .map(|_| opened.as_ref().err().copied().unwrap_or(0))
+        .map_err(|difference| (difference, image.clone()))
 }
 
 /// With the case's own list, and with lists of several lengths.

@@ -30,5 +30,6 @@ pub mod set_clock;
 mod strays;
 pub mod unheld;
 pub mod wall_clock;
+pub mod wider;
 pub mod wish;
 pub mod worked;

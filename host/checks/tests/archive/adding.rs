@@ -1,9 +1,9 @@
 //! How many lookups at once are tried: every question with all its arguments, the archive's sum
 //! compared with the reading's.
-use super::questions::widen;
 use checks::against::lookups::read_stamps;
 use checks::against::trial::{hex, lend};
 use checks::generator::questions::Arguments;
+use checks::generator::wider::widen;
 use measured::lookups;
 use reading::lookup::{open, Journal, Part};
 

@@ -1,9 +1,9 @@
 //! How lookups are tried: every question to an image, the archive's answer compared with the
 //! reading's.
-use super::questions::{of_refused, widen};
-use checks::against::lookups::{archive, read, read_stamps, shows, Words};
+use checks::against::lookups::{archive, lookup, read, read_stamps, refused, Words};
 use checks::against::trial::{hex, lend};
 use checks::generator::questions::Arguments;
+use checks::generator::wider::{of_refused, widen};
 use reading::ask::Question;
 use reading::layout::kind;
 use reading::lookup::{open, Journal};
@@ -55,8 +55,7 @@ impl Tried {
             let answer = archive(lent, question);
             let expected = match journal {
                 Ok(journal) => read(journal, question),
-                Err(_) if shows(question) => Words::Part(raw::Part::default()),
-                Err(number) => Words::Number(*number),
+                Err(number) => refused(question, *number),
             };
             if answer != expected {
                 panic!(
@@ -64,16 +63,7 @@ impl Tried {
                     hex(lent)
                 );
             }
-            let lookup = match question {
-                Question::Entry(_) => 0,
-                Question::FirstSeqnum(_) => 1,
-                Question::FirstRealtime(_) => 2,
-                Question::Holding(..) => 3,
-                Question::Item(..) => 4,
-                Question::Payload(..) => 5,
-            };
-            let none = [Words::Number(0), Words::Part(raw::Part::default())];
-            self.count(lookup, journal.is_ok(), !none.contains(&answer));
+            self.count(lookup(question), journal.is_ok(), !answer.is_none());
         }
         for &offset in offsets {
             let answer = raw::stamps(lent, offset);

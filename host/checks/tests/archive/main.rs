@@ -21,7 +21,6 @@ mod naming;
 mod open;
 mod pages;
 mod paging;
-mod questions;
 mod set_clock;
 mod set_clocks;
 mod streams;

@@ -1,8 +1,9 @@
 //! The C declarations against the source of the exports and of the structs that they answer.
 use crate::page::blocks;
 use std::collections::BTreeSet;
+use std::path::Path;
+use std::sync::OnceLock;
 
-const EXPORTS: &str = include_str!("../../../../crates/journal/src/lib.rt");
 const STRUCTS: [&str; 4] = [
     include_str!("../../../../crates/reading/src/answer.rt"),
     include_str!("../../../../crates/reading/src/merged.rt"),
@@ -15,6 +16,19 @@ pub struct Export {
     pub name: &'static str,
     pub parameters: Vec<(&'static str, &'static str)>,
     pub answer: &'static str,
+}
+
+/// All files of the crate that exports.
+fn source() -> &'static str {
+    static SOURCE: OnceLock<String> = OnceLock::new();
+    SOURCE.get_or_init(|| {
+        let folder = Path::new(env!("CARGO_MANIFEST_DIR")).join("../../crates/journal/src");
+        let files = std::fs::read_dir(folder).expect("the crate is there");
+        let text = |file: std::io::Result<std::fs::DirEntry>| {
+            std::fs::read_to_string(file.expect("a file").path()).expect("text")
+        };
+        files.map(text).collect()
+    })
 }
 
 pub fn exports() -> Vec<Export> {
@@ -30,7 +44,7 @@ pub fn exports() -> Vec<Export> {
             answer: answer.lines().next().expect("a line"),
         }
     };
-    let texts = EXPORTS.split("pub extern \"C\" fn ").skip(1);
+    let texts = source().split("pub extern \"C\" fn ").skip(1);
     texts.map(export).collect()
 }
 
@@ -98,6 +112,6 @@ fn declared() -> BTreeSet<String> {
 #[test]
 fn every_export() {
     let expected = expected();
-    assert_eq!(expected.len(), 23 + 9);
+    assert_eq!(expected.len(), 29 + 9);
     assert_eq!(declared(), expected);
 }

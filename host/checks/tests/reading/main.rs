@@ -15,6 +15,7 @@ mod late;
 mod merged;
 mod merged_answers;
 mod pages;
+mod plain;
 mod refusals;
 mod set_clock;
 mod stores;

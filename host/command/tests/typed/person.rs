@@ -1,4 +1,5 @@
 //! Somebody who types commands, in a folder of their own.
+use crate::plain;
 use std::ffi::OsStr;
 use std::path::{Path, PathBuf};
 use std::process::{Command, Output};
@@ -98,9 +99,11 @@ pub fn said(command: &mut Command) -> Said {
     Said::from(command.output().expect("it runs"))
 }
 
-/// `journal NAME FILE WORDS`.
+/// `journal NAME FILE WORDS`, which has to be the same by the plain reader.
 pub fn typed<I: AsRef<OsStr>>(name: &str, file: &Path, words: &[I]) -> Said {
-    said(program().arg(name).arg(file).args(words))
+    let said = said(program().arg(name).arg(file).args(words));
+    plain::set_against(name, file, words, &said);
+    said
 }
 
 /// The same without words.

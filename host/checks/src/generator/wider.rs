@@ -1,5 +1,6 @@
-//! The questions to an image.
-use checks::generator::questions::Arguments;
+//! More questions: beside the arguments that an image has and far from them, and those to an image that
+//! is refused.
+use super::questions::Arguments;
 use reading::ask::Question;
 use reading::image::Image;
 use reading::layout::kind;
@@ -24,6 +25,10 @@ pub fn widen(arguments: &mut Arguments, length: u64) {
         let same: Vec<Vec<u8>> = all.iter().step_by(4).cloned().collect();
         for mut bytes in same {
             all.insert([&bytes[..], b"\0"].concat());
+            // A letter in the other case.
+            if let [first, rest @ ..] = &bytes[..] {
+                all.insert([&[first ^ 0x20], rest].concat());
+            }
             if let Some(last) = bytes.last_mut() {
                 *last ^= 1;
                 all.insert(bytes.clone());
