@@ -33,3 +33,4 @@ pub mod wall_clock;
 pub mod wider;
 pub mod wish;
 pub mod worked;
+pub mod written;

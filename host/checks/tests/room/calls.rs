@@ -4,7 +4,8 @@ use checks::random::Random;
 use reading::batch;
 use reading::request::{packed, Request};
 
-use crate::file::{request, File, BOOT, LONG, MACHINE};
+use crate::file::{request, File, BOOT, LONG};
+use checks::generator::written::MACHINE;
 
 /// Too short for any append: an ENTRY alone has nine words.
 const SHORT: usize = 16 * 9;

@@ -1,26 +1,12 @@
 //! A file that the archive makes and writes, looked at after each call.
-use checks::generator::compact::set_layout;
-use checks::random::Random;
+use checks::generator::written::{made, MACHINE};
 use reading::layout::Layout;
-use wrapper::{carry_out, new, plan, plan_batch, Planned, PlannedBatch, Request};
+use wrapper::{carry_out, plan, plan_batch, Planned, PlannedBatch, Request};
 
 use crate::look::look;
 use crate::seen::Seen;
 
-pub const MACHINE: [u8; 16] = [2; 16];
 pub const BOOT: [u8; 16] = [5; 16];
-
-/// What is written: the layouts and header sizes, each keyed and not.
-pub const WRITTEN: [(Layout, u64, bool); 8] = [
-    (Layout::Regular, 256, false),
-    (Layout::Regular, 256, true),
-    (Layout::Regular, 272, false),
-    (Layout::Regular, 272, true),
-    (Layout::Compact, 256, false),
-    (Layout::Compact, 256, true),
-    (Layout::Compact, 272, false),
-    (Layout::Compact, 272, true),
-];
 
 /// The bytes of a list that is long enough for every append and batch here.
 pub const LONG: usize = 16 * 60_000;
@@ -37,19 +23,13 @@ pub struct File<'a> {
 impl<'a> File<'a> {
     /// A new file of so many bytes, with so many cells in each of its tables.
     pub fn new(
-        (layout, header_size, keyed): (Layout, u64, bool),
+        kind: (Layout, u64, bool),
         length: usize,
         cells: u64,
         seen: &'a mut Seen,
     ) -> File<'a> {
-        let ids = [[1; 16], MACHINE, [3; 16], [4; 16]].concat();
-        let ids = ids[..].try_into().expect("64 bytes");
-        let mut image = Random::new(length as u64).bytes(length);
-        let answer = new(&mut image, ids, cells, cells, keyed, header_size);
-        assert_eq!(answer, Ok(()), "a new file of {length} bytes");
-        set_layout(&mut image, layout);
         let mut file = File {
-            image,
+            image: made(kind, length, cells),
             seqnum: 0,
             entries: 0,
             list: vec![0; LONG],

@@ -3,8 +3,9 @@ use checks::random::Random;
 use reading::layout::Layout;
 
 use crate::calls::any;
-use crate::file::{File, WRITTEN};
+use crate::file::File;
 use crate::seen::Seen;
+use checks::generator::written::WRITTEN;
 
 /// Files of several lengths, up to their ends and on.
 #[test]
