@@ -5,4 +5,5 @@ pub mod LongHeader
 pub mod Compact
 pub mod Streams
 pub mod Syncs
+pub mod Whys
 pub mod Batches

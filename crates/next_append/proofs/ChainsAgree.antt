@@ -48,6 +48,6 @@ module _ {F F′ : File} {new : Kind → List ℕ} {e : ℕ} (x : Extends F F′
       rw (same-cell x fieldTable (hashOf F′ (F′ .name f)), ← x .newField f n .table .hash) (new-field-in f n)
 
   -- 14 of chains and lists
-  pub chains-agree : chainsFault F′ ≡ false
-  chains-agree =
-      chains-clear F′ .1 (λ d m. let k = data-reached d (which x DATA d m) in (k .cell, k .list), λ f m. field-reached f (which x FIELD f m))
+  pub chains-agree : Passes F′ → chainsFault F′ ≡ false
+  chains-agree p′ =
+      chains-clear F′ (x .formed′) p′ (λ d m. let k = data-reached d (which x DATA d m) in (k .cell, k .list), λ f m. field-reached f (which x FIELD f m))

@@ -6,3 +6,4 @@ pub mod Chained
 pub mod Kept
 pub mod Listed
 pub mod Counts
+pub mod Lowest

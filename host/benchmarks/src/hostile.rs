@@ -1,4 +1,5 @@
-//! Opening files that are made to take long: their time, and how it grows with their length.
+//! Files that are made to take long: the time of opening them, how it grows with their length, and that
+//! of `why`, which goes through all of a file that opens.
 use crate::builder::Builder;
 use crate::objects::Objects;
 use crate::timing::time_long;
@@ -31,8 +32,8 @@ pub fn hostile() {
         lengths = vec![8 << 20];
     }
     println!(
-        "{:<36} {:>8} {:>12} {:>8}",
-        "hostile", "MiB", "ms", "growth"
+        "{:<36} {:>8} {:>12} {:>8} {:>12}",
+        "hostile", "MiB", "ms", "growth", "why ms"
     );
     for (label, make) in kinds {
         let mut before: Option<f64> = None;
@@ -45,7 +46,12 @@ pub fn hostile() {
                 least = least.min(time_long(&mut open, 1) / 1e6);
             }
             let growth = before.map_or(String::new(), |before| format!("{:.1}", least / before));
-            println!("{label:<36} {:>8} {least:>12.1} {growth:>8}", length >> 20);
+            let mut why = || assert_eq!(raw::why(&image).refusal, 0, "{label}");
+            let why = time_long(&mut why, 1) / 1e6;
+            println!(
+                "{label:<36} {:>8} {least:>12.1} {growth:>8} {why:>12.1}",
+                length >> 20
+            );
             before = Some(least);
         }
     }

@@ -1,5 +1,5 @@
 //! Times the archive against plain Rust: `cargo run --offline --release -p benchmarks`.
-//! Sections are `hashes`, `frame`, `open`, `compact`, `append`, `tray`, `lookups`, `readers`, `listing`,
+//! Sections are `hashes`, `frame`, `open`, `why`, `compact`, `append`, `tray`, `lookups`, `readers`, `listing`,
 //! `merged` and `hostile`; with their names only those are run.
 //!
 //! A ratio of 1.0 or more means that the archive is at least as fast as plain Rust.
@@ -21,6 +21,7 @@ mod process;
 mod readers;
 mod timing;
 mod tray;
+mod why;
 
 use checks::random::Random;
 use reading::lookup3::hashlittle2;
@@ -31,10 +32,11 @@ use wrapper::raw;
 
 fn main() {
     let asked: Vec<String> = std::env::args().skip(1).collect();
-    let sections: [(&str, fn()); 11] = [
+    let sections: [(&str, fn()); 12] = [
         ("hashes", hashes),
         ("frame", frame::frame),
         ("open", open::open),
+        ("why", why::why),
         ("compact", compact::compact),
         ("append", append::append),
         ("tray", tray::tray),

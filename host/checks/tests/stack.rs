@@ -1,5 +1,6 @@
 //! Every call that reads an image does with the stack that `docs/HOST.md` names. With too little of it
 //! the whole test ends.
+use checks::generator::frame::set;
 use checks::generator::worked::{first, request, second, two_appends};
 use reading::batch::packed;
 use wrapper::{Offset, Planned, PlannedBatch, Request, Which};
@@ -91,13 +92,33 @@ fn plain_lookups(image: &[u8]) {
     assert_eq!(value(image, b"PRIORITY", 0), payload);
 }
 
+/// Asks why a file is refused: it is not; and after each of some damages, one for each number from 6 on.
+fn whys(image: &[u8]) {
+    assert_eq!(wrapper::why(image), None);
+    let words = [
+        (136, 1, 6),
+        (104, 0, 7),
+        (176, 8, 8),
+        (152, 9, 9),
+        (376, 9, 10),
+        (336, 9, 11),
+    ];
+    for (at, value, number) in words {
+        let mut image = image.to_vec();
+        set(&mut image, at, value);
+        let why = wrapper::why(&image).expect("it is refused");
+        assert_eq!(why.refusal.number(), number);
+    }
+}
+
 #[test]
 fn a_small_stack() {
     for keyed in [false, true] {
         let image = within(PLAN, move || appends(keyed));
-        let (planned, walked) = (image.clone(), image.clone());
+        let (planned, walked, asked) = (image.clone(), image.clone(), image.clone());
         within(BATCH, move || batches(&planned));
         within(READING, move || plain_lookups(&walked));
+        within(READING, move || whys(&asked));
         within(READING, move || lookups(&image));
     }
 }

@@ -10,7 +10,7 @@ use reading::ask::Question;
 use reading::lookup::open;
 use reading::refusal::CLAUSES;
 use wrapper::raw;
-use wrapper::{Foreign, Offset, Refusal};
+use wrapper::{Foreign, Offset, Place, Refusal, Why, WrongHash};
 
 /// The number of a lookup's answer.
 fn number(answer: Result<Option<Offset>, Refusal>) -> u64 {
@@ -137,6 +137,39 @@ fn same_foreign(image: &[u8]) {
     }
 }
 
+/// Why it is refused; the place is an offset, 0 of the header, or a position.
+fn same_why(image: &[u8]) {
+    let is = raw::why(image);
+    let Some(Why {
+        refusal,
+        place,
+        hash,
+    }) = wrapper::why(image)
+    else {
+        return assert_eq!(is, raw::Why::default());
+    };
+    let place = match place {
+        Place::Header => 0,
+        Place::Object(offset) if refusal.number() != 9 => offset.0,
+        Place::Position(index) if refusal.number() == 9 => index,
+        _ => panic!("{place:?} at {refusal}"),
+    };
+    let none = WrongHash {
+        stored: 0,
+        right: 0,
+    };
+    let (hash_wrong, WrongHash { stored, right }) = (hash.is_some().into(), hash.unwrap_or(none));
+    let refusal = refusal.number();
+    let numbers = raw::Why {
+        refusal,
+        place,
+        hash_wrong,
+        stored,
+        right,
+    };
+    assert_eq!(numbers, is);
+}
+
 /// All entries and values, against the lookups one by one.
 fn same_pages(image: &[u8]) {
     let mut page = vec![0; image.len().min(300)];
@@ -186,6 +219,7 @@ fn answers() {
         same_lookups(&image, 7);
         same_pages(&image);
         same_foreign(&image);
+        same_why(&image);
     }
     for (name, number) in FILES {
         let image = corpus::image(name);
@@ -196,6 +230,7 @@ fn answers() {
         same_lookups(&image, 97);
         same_pages(&image);
         same_foreign(&image);
+        same_why(&image);
     }
 }
 
@@ -208,6 +243,7 @@ fn refusals() {
         same_lookups(&image, 1);
         same_pages(&image);
         same_foreign(&image);
+        same_why(&image);
     }
     let mut image = [0; 312];
     let made = wrapper::new(&mut image, &[0; 64], 1, 1, false, 256);

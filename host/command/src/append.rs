@@ -17,7 +17,7 @@ pub struct Wish {
 
 pub fn append(path: &Path, wish: &Wish, manner: &Manner) -> Result<(), Fault> {
     let (file, image) = settle::locked(path, manner)?;
-    let refused = |refusal| Fault::refused(path, refusal);
+    let refused = |refusal| Fault::refused(path, &image, refusal);
     let entries = wrapper::all_entries(&image).map_err(refused)?;
     let last = entries.last();
     let fields = packed(&wish.payloads).map_err(refused)?;
@@ -34,7 +34,7 @@ pub fn append(path: &Path, wish: &Wish, manner: &Manner) -> Result<(), Fault> {
         };
         match append.refused(refusal) {
             Some(why) => Fault::because(path, refusal, &why),
-            None => Fault::refused(path, refusal),
+            None => refused(refusal),
         }
     })?;
     doubt::none(path, &wish.stamps, request)?;

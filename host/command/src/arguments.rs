@@ -1,4 +1,5 @@
 //! What was typed, taken apart.
+use crate::facts::Facts;
 use crate::fault::Fault;
 use crate::form::Form;
 use crate::ids::{self, Id};
@@ -42,6 +43,10 @@ pub enum Command {
     Check {
         file: PathBuf,
     },
+    Why {
+        file: PathBuf,
+        form: Facts,
+    },
     Foreign {
         file: PathBuf,
         form: Form,
@@ -73,6 +78,7 @@ pub fn command(words: &[OsString]) -> Result<Command, Fault> {
             let [file] = Words::new(rest, &[])?.plain("check FILE")?;
             Ok(Command::Check { file: file.into() })
         }
+        "why" => questions::why(rest),
         "foreign" => questions::foreign(rest),
         "room" => room::typed(rest).map(Command::Room),
         "new" | "append" | "copy" => writes::command(name, rest).map(Command::Write),

@@ -29,7 +29,8 @@ pub fn append(path: &Path, wish: &Wish, manner: &Manner) -> Result<(), Fault> {
     let lines = lines::read(wish.from.as_deref())?;
     let (file, image) = settle::locked(path, manner)?;
     wish.way.suits(path, &file)?;
-    let entries = wrapper::all_entries(&image).map_err(|refusal| Fault::refused(path, refusal))?;
+    let refused = |refusal| Fault::refused(path, &image, refusal);
+    let entries = wrapper::all_entries(&image).map_err(refused)?;
     let last = entries.last().map_or(0, |entry| entry.seqnum);
     let (way, sum) = (wish.way, Sum::default());
     let mut journal = Journal {
@@ -102,7 +103,7 @@ impl Journal<'_> {
         let stamps = wished.after(self.last)?;
         let fields = lines.iter().map(|line| packed(&line.payloads));
         let fields: Result<Vec<Fields>, _> = fields.collect();
-        let fields = fields.map_err(|refusal| Fault::refused(path, refusal))?;
+        let fields = fields.map_err(|refusal| Fault::refused(path, &self.image, refusal))?;
         let requests = fields.iter().zip(0..);
         let requests = requests.map(|(fields, n)| stamps.request(n, fields.packed()));
         let requests = Vec::from_iter(requests);
@@ -148,6 +149,6 @@ impl Journal<'_> {
         self.sum.add(done);
         self.last = last;
         wrapper::carry_out(&mut self.image, &list, done.stores as u64)
-            .map_err(|refusal| Fault::refused(path, refusal))
+            .map_err(|refusal| Fault::because(path, refusal, refusal.sentence()))
     }
 }

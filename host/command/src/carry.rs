@@ -1,6 +1,7 @@
 //! The stores of an append on the file itself: they are carried out on the mapped file, with a sync
 //! wherever the library says, as the page for those who write a host has it.
 use crate::fault::{said, Fault};
+use crate::image::N_ENTRIES;
 use crate::signals;
 use crate::system::{self, Mapped};
 use std::fs::File;
@@ -62,13 +63,11 @@ fn in_parts(path: &Path, mapped: &mut Mapped, parts: &[&[u8]]) -> Result<usize, 
 /// Carries all stores of a list out, without a sync.
 pub fn all(path: &Path, mapped: &mut Mapped, list: &[u8]) -> Result<(), Fault> {
     wrapper::carry_out(mapped.bytes(), list, list.len() as u64 / 16)
-        .map_err(|refusal| Fault::refused(path, refusal))
+        .map_err(|refusal| Fault::because(path, refusal, refusal.sentence()))
 }
 
-/// Where the header has n_entries: the store there commits an entry.
-pub const N_ENTRIES: u64 = 152;
-
-/// What is known of the entries where the sync behind the n-th part failed; to follow other words.
+/// What is known of the entries where the sync behind the n-th part failed; to follow other words. The store of
+/// n_entries commits an entry.
 fn on_the_disk(parts: &[&[u8]], n: usize) -> String {
     let commits = |parts: &[&[u8]]| {
         let stores = parts.iter().flat_map(|part| part.chunks_exact(16));

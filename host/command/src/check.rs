@@ -1,17 +1,21 @@
-//! `check`: whether a file can be read, whether it takes appends, how much room is left in it, what
-//! its header is, what was walked over, and a redo list beside it.
+//! `check`: whether a file can be read, and else all that can be said of why not; whether it takes
+//! appends, how much room is left in it, what its header is, what was walked over, and a redo list
+//! beside it.
 use crate::fault::Fault;
 use crate::files::PATIENCE;
-use crate::image::{is_compact, word};
+use crate::image::{is_compact, word, HEADER_SIZE};
 use crate::text::counted;
-use crate::{files, foreign, ids};
+use crate::{facts, files, foreign, ids, why_file};
 use std::io::Write;
 use std::path::Path;
 use wrapper::{BootMeaning, Entry, Planned, Refusal, Request};
 
 pub fn check(file: &Path, out: &mut impl Write) -> Result<(), Fault> {
     let (image, redo) = files::read_within(file, PATIENCE)?;
-    let refused = |refusal| Fault::refused(file, refusal);
+    let refused = |refusal| match wrapper::why(&image) {
+        Some(why) => facts::in_full(file, &image, &why),
+        None => Fault::refused(file, &image, refusal),
+    };
     let entries = wrapper::all_entries(&image).map_err(refused)?;
     let count = counted(entries.len(), "entry", "entries");
     let room = Room::of(&image);
@@ -63,7 +67,10 @@ fn hindrance(image: &[u8], last: Option<&Entry>, room: &Room) -> Option<String> 
         {
             None
         }
-        Planned::Refused(refusal) => Some(refusal.to_string()),
+        Planned::Refused(refusal) => {
+            let sentence = why_file::sentence(image, refusal);
+            Some(format!("{sentence} ({})", refusal.rule()))
+        }
         Planned::TooShort { .. } | Planned::Stores { .. } => None,
     }
 }
@@ -84,9 +91,6 @@ fn smallest_entry(image: &[u8]) -> u64 {
         true => 72,
     }
 }
-
-/// Where the header has its own size.
-const HEADER_SIZE: u64 = 88;
 
 /// The arena of a file that opens, by its header.
 struct Room {

@@ -12,7 +12,7 @@ pub fn copy(path: &Path, to: &Path, manner: &Manner) -> Result<(), Fault> {
     let (image, _) = files::read_within(path, manner.wait)?;
     if image.len() as u64 > LONGEST_IMAGE {
         // More than this has not been read.
-        wrapper::open(&image).map_err(|refusal| Fault::refused(path, refusal))?;
+        wrapper::open(&image).map_err(|refusal| Fault::refused(path, &image, refusal))?;
     }
     let facts = std::fs::metadata(path).map_err(|error| Fault::system(path, &error))?;
     let mode = facts.permissions().mode() & 0o777;

@@ -1,4 +1,4 @@
-//! What goes wrong, in one line for a person, and the status that the program ends with.
+//! What goes wrong, in one line for a person, of `check` in several, and the status that the program ends with.
 use crate::text::shown;
 use crate::why_file;
 use std::io::{Error, ErrorKind};
@@ -58,24 +58,33 @@ impl Fault {
         }
     }
 
-    /// The library refuses. Which condition of its rule applies is told by the file, where that helps.
-    pub fn refused(file: &Path, refusal: Refusal) -> Fault {
-        let why = why_file::of(file, refusal);
-        Fault::because(file, refusal, why.as_deref().unwrap_or(refusal.sentence()))
+    /// The library refuses a file, of which this image was read. The sentence is the same for every
+    /// command.
+    pub fn refused(file: &Path, image: &[u8], refusal: Refusal) -> Fault {
+        Fault::because(file, refusal, &why_file::sentence(image, refusal))
     }
 
     /// The plain reader refuses. 14 keeps it from reading, and not the other one.
-    pub fn refused_plainly(file: &Path, refusal: Refusal) -> Fault {
+    pub fn refused_plainly(file: &Path, image: &[u8], refusal: Refusal) -> Fault {
         match refusal.number() {
             14 => Fault {
                 status: status::UNREADABLE,
                 ..Fault::because(file, refusal, ONLY_PLAINLY)
             },
-            _ => Fault::refused(file, refusal),
+            _ => Fault::refused(file, image, refusal),
         }
     }
 
-    /// The same, with the sentence that a person reads first.
+    /// For `check`: the sentence alone, and then lines with more.
+    pub fn in_full(file: &Path, sentence: &str, lines: &[String]) -> Fault {
+        let lines = lines.iter().map(|line| format!("\n{line}"));
+        Fault {
+            status: status::UNREADABLE,
+            ..Fault::of(file, format!("{sentence}{}", String::from_iter(lines)))
+        }
+    }
+
+    /// The library refuses, with the sentence that a person reads first.
     pub fn because(file: &Path, refusal: Refusal, sentence: &str) -> Fault {
         let status = match refusal.number() {
             1..=11 => status::UNREADABLE,
@@ -107,7 +116,7 @@ impl Fault {
         Fault::of(file, said(error))
     }
 
-    /// All that is said, as a line.
+    /// All that is said, as a line; of `check` with the lines after it.
     pub fn line(&self) -> String {
         format!("journal: {}\n", self.words)
     }

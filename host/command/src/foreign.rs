@@ -11,7 +11,8 @@ use wrapper::{foreign_objects, Foreign, Refusal};
 
 pub fn foreign(file: &Path, form: &Form, out: &mut impl Write) -> Result<(), Fault> {
     let image = files::read(file)?;
-    let objects = foreign_objects(&image).map_err(|refusal| Fault::refused(file, refusal))?;
+    let refused = |refusal| Fault::refused(file, &image, refusal);
+    let objects = foreign_objects(&image).map_err(refused)?;
     let (columns, rows) = ([Column::Offset, Column::Type], Vec::from_iter(objects));
     form.cells(&columns, &rows, out).map_err(Fault::answer)
 }

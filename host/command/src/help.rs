@@ -37,6 +37,7 @@ journal: reads and writes systemd journal files of at most 8 MiB
   newest FILE NAME               each value of a field with its newest entry
   values FILE NAME               field values by first appearance, last first
   check FILE                     whether it can be read and takes appends
+  why FILE                       the facts on a file that is refused, one a line
   foreign FILE                   objects of types not known here, walked over
   room --entries N NAME=BYTES    the bytes that a file of so many entries takes
   new FILE                       makes a file, and never overwrites one
@@ -46,10 +47,9 @@ journal: reads and writes systemd journal files of at most 8 MiB
   help COMMAND                   all of one command, with its options
   --plain COMMAND                list, find and values by a plain reader, slowly
 
-list, show, find, newest and values take FILE FILE2 too, read as one stream, and
-say from which, 1 or 2; list, find and newest have --since T, --until T, -n N,
---reverse, --fields A,B, --no-header and -o tsv, csv or json. A wall time T is
-like '2026-11-15 14:23:44.5 +0100'; help list has more. Bytes that do not print
+list, show, find, newest, values take FILE FILE2 too, as one stream; list, find,
+newest have --since T, --until T, -n N, --reverse, --fields A,B, --no-header, -o
+tsv, csv or json; T is like '2026-11-15 14:23:44 +0100'. Bytes that do not print
 show as \\xNN, a backslash as \\\\. Status: 0 done; 1 not found or failed; 2 typed
 wrongly; 3 file refused; 4 entry or new file refused; 5 file full; 6 lock taken.
 ";
@@ -84,7 +84,7 @@ indexes. It is slow: the file is judged anew for each answer, and must pass 14.
     };
 }
 
-const EACH: [(&str, &str); 11] = [
+const EACH: [(&str, &str); 12] = [
     (
         "list",
         concat!(
@@ -152,11 +152,39 @@ A line can be given back: find FILE --field \"NAME=$line\" (read it by read -r).
     (
         "check",
         "\
-check FILE: whether the file can be read, and else why not, with status 3; then
-whether it takes appends, and else why not; how much room is left in it; how
-long its header is, whether the file is compact, and whether the boot id there
-is that of the last entry; where it has foreign objects, how many and of which
-types, up to 100 of them; and whether a redo list stands beside it, FILE.redo
+check FILE: whether the file can be read; then whether it takes appends, and
+else why not; how much room is left in it; how long its header is, whether the
+file is compact, and whether the boot id there is that of the last entry; where
+it has foreign objects, how many and of which types, up to 100 of them; and
+whether a redo list stands beside it, FILE.redo
+
+Where it can't be read, the status is 3, and standard error has in lines: what
+is wrong, where, what that means for the results and what to do; the number of
+the refusal and the words of its rule; the place of the first fault; and where
+a hash there is wrong, the one that is stored and the right one. The other
+commands say the first two of these in one line. why FILE has the bare facts.
+",
+    ),
+    (
+        "why",
+        "\
+why FILE: the facts on a file that is refused, a name and its value a line, for
+tools and the help desk. The status is 0 also where it is refused: that is what
+was asked for. check FILE says the same to a person.
+
+  refusal N              the number, 1 to 11; 0 for a file that opens, and then
+                         there is no other line
+  rule WORDS             the rule of this number
+  place N                the offset of the first object at fault, 0 the header
+  object TYPE            its type: DATA, FIELD, ENTRY, DATA_HASH_TABLE,
+                         FIELD_HASH_TABLE, ENTRY_ARRAY, TAG, UNUSED, a number
+                         that has no name; or header
+  position N             at 9, in place of these two: the first committed entry
+                         at fault, counted from 0
+  stored HASH            at 11, if a hash there is wrong: the first one, and
+  right HASH             what it ought to be, both in 16 hexadecimal digits
+
+  -o json                all of it as one object
 ",
     ),
     (

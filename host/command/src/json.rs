@@ -18,13 +18,19 @@ pub fn lines(rows: &[Row], fields: Option<&[Vec<u8>]>, out: &mut impl Write) -> 
 /// Each cell under its heading.
 pub fn cells<R>(columns: &[impl Cells<R>], rows: &[R], out: &mut impl Write) -> Result<()> {
     for row in rows {
-        let pairs = columns.iter().filter_map(|column| {
-            let cell = column.cell(row)?;
-            Some(format!("{}:{}", string(&column.heading()), string(&cell)))
-        });
-        writeln!(out, "{{{}}}", Vec::from_iter(pairs).join(","))?;
+        let pairs = columns
+            .iter()
+            .filter_map(|column| Some((column.heading(), column.cell(row)?)));
+        writeln!(out, "{}", self::pairs(&Vec::from_iter(pairs)))?;
     }
     Ok(())
+}
+
+/// An object of names and strings.
+pub fn pairs(pairs: &[(impl AsRef<str>, String)]) -> String {
+    let pair =
+        |(name, text): &(_, String)| format!("{}:{}", string(AsRef::as_ref(name)), string(text));
+    format!("{{{}}}", Vec::from_iter(pairs.iter().map(pair)).join(","))
 }
 
 fn object(row: &Row, fields: Option<&[Vec<u8>]>) -> String {

@@ -17,6 +17,7 @@ mod columns;
 mod copy;
 mod done;
 mod doubt;
+mod facts;
 mod fault;
 mod files;
 mod foreign;
@@ -30,6 +31,7 @@ mod lines;
 mod new;
 mod parts;
 mod payload;
+mod place;
 mod plain;
 mod planned;
 mod questions;
@@ -51,8 +53,11 @@ mod times;
 mod ways;
 mod why;
 mod why_batch;
+mod why_damaged;
 mod why_file;
 mod why_new;
+mod why_order;
+mod why_walk;
 mod words;
 mod writes;
 mod zone;
@@ -112,6 +117,7 @@ fn carry_out(command: Command) -> Result<(), Fault> {
         } => read::newest(files, &name, &which, form, &mut out)?,
         Command::Values { files, name } => read::values(files, &name, &mut out)?,
         Command::Check { file } => check::check(&file, &mut out)?,
+        Command::Why { file, form } => facts::why(&file, form, &mut out)?,
         Command::Foreign { file, form } => foreign::foreign(&file, &form, &mut out)?,
         Command::Room(shape) => room::room(&shape, &mut out)?,
         // What these say is said by themselves: it is no answer that could be asked for again.

@@ -45,7 +45,7 @@ pub fn new(path: &Path, wish: &Wish, manner: &Manner) -> Result<(), Fault> {
     );
     made.map_err(|refusal| match why_new::of(&wish.sizes) {
         Some(why) => Fault::because(path, refusal, &why),
-        None => Fault::refused(path, refusal),
+        None => Fault::because(path, refusal, refusal.sentence()),
     })?;
     signals::held(|| {
         fresh::kept(path, &image, fresh::MODE)?;

@@ -1,11 +1,10 @@
 //! One file by the library's plain reader, which goes over the ENTRY objects and uses no index. The entries
 //! come by their places, what they say of themselves from their own words, and their payloads item by
 //! item. Each answer judges the file anew, so nothing is asked for that is not printed.
-use crate::image::{bytes, is_compact, word};
+use crate::image::{bytes, is_compact, word, SIZE};
 use wrapper::{plain, Entry, Offset, Refusal};
 
 /// Where an ENTRY has its words, and from where on its items.
-const SIZE: u64 = 8;
 const SEQNUM: u64 = 16;
 const REALTIME: u64 = 24;
 const MONOTONIC: u64 = 32;

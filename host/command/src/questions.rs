@@ -1,5 +1,6 @@
 //! What was typed of the commands that read, taken apart.
 use crate::arguments::{number, time, Command};
+use crate::facts::Facts;
 use crate::fault::Fault;
 use crate::form::{self, Form};
 use crate::selection::{self, Selection};
@@ -84,6 +85,16 @@ pub fn values(rest: &[OsString]) -> Result<Command, Fault> {
     Ok(Command::Values {
         files,
         name: field_name(&name)?,
+    })
+}
+
+pub fn why(rest: &[OsString]) -> Result<Command, Fault> {
+    let words = Words::new(rest, &["-o"])?;
+    let form = words.option("-o", Facts::typed)?.unwrap_or(Facts::Lines);
+    let [file] = words.plain("why FILE")?;
+    Ok(Command::Why {
+        file: file.into(),
+        form,
     })
 }
 

@@ -1,8 +1,8 @@
 //! A redo list: the stores of a batch, kept beside the journal while they are carried out. Whatever of
 //! them reached the disk before a power cut, in any order, all of them once more make the file that was
 //! meant (proved: `RedoBatch`). The page for those who write a host has its bytes and rules.
-use crate::carry::N_ENTRIES;
 use crate::ids::{self, Id};
+use crate::image::N_ENTRIES;
 use wrapper::{carry_out, hash_siphash24, plan, Planned, Refusal, Request};
 
 const MAGIC: &[u8; 8] = b"JRNLREDO";

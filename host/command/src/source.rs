@@ -138,9 +138,12 @@ impl Source {
     /// The library refuses a file.
     fn refused(&self, file: Which, refusal: Refusal) -> Fault {
         match self {
-            Source::One(file, _) => Fault::refused(file, refusal),
-            Source::Plain(file, _) => Fault::refused_plainly(file, refusal),
-            Source::Two([first, second], _) => Fault::refused(file.of(first, second), refusal),
+            Source::One(file, image) => Fault::refused(file, image, refusal),
+            Source::Plain(file, image) => Fault::refused_plainly(file, image, refusal),
+            Source::Two([first, second], images) => {
+                let image = file.of(&images[0], &images[1]);
+                Fault::refused(file.of(first, second), image, refusal)
+            }
         }
     }
 

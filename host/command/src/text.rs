@@ -62,6 +62,16 @@ pub fn prints(character: char) -> bool {
     }
 }
 
+/// Bytes as they are shown, or the start of them if they are long.
+pub fn start(bytes: &[u8]) -> String {
+    match bytes.split_at_checked(LONG) {
+        Some((start, [_, ..])) => format!("{}..", shown(start)),
+        _ => shown(bytes),
+    }
+}
+
+const LONG: usize = 40;
+
 /// A count and what is counted.
 pub fn counted(count: usize, one: &str, more: &str) -> String {
     match count {

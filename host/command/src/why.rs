@@ -2,7 +2,7 @@
 //! is about. The number is the library's; the words are worked out from the file and the request.
 use crate::ids;
 use crate::stamps::Wished;
-use crate::text::shown;
+use crate::text::{shown, start};
 use wrapper::{Entry, Refusal, Request};
 
 /// An append, and the file that it is for.
@@ -96,7 +96,7 @@ impl Append<'_> {
 fn field(payloads: &[Vec<u8>]) -> Option<String> {
     let wrong = payloads.iter().zip(1..).find_map(|(payload, place)| {
         let what = wrong(payload)?;
-        Some(format!("field {place}, {}: {what}", start(payload)))
+        Some(format!("field {place}, {}: {what}", given(payload)))
     });
     let count = payloads.len();
     let many = format!("{count} fields are given: an entry takes 64, and repeats count");
@@ -128,11 +128,10 @@ fn wrong(payload: &[u8]) -> Option<String> {
     }
 }
 
-/// A field as it is shown, or its start if that is long.
-fn start(payload: &[u8]) -> String {
-    match payload.len() {
-        0 => "which is empty".to_string(),
-        1..=40 => shown(payload),
-        _ => format!("{}..", shown(&payload[..40])),
+/// A field as it was given.
+fn given(payload: &[u8]) -> String {
+    match payload {
+        [] => "which is empty".to_string(),
+        _ => start(payload),
     }
 }

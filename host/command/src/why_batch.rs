@@ -36,7 +36,7 @@ impl Batch<'_> {
                 Fault::because(self.path, refusal, &words)
             }
             (None, Some(why)) => Fault::because(self.path, refusal, &why),
-            (None, None) => Fault::refused(self.path, refusal),
+            (None, None) => Fault::refused(self.path, self.image, refusal),
         }
     }
 

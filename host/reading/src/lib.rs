@@ -25,3 +25,4 @@ pub mod room;
 pub mod siphash;
 pub mod sizing;
 pub mod tail;
+pub mod why;

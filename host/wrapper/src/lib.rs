@@ -27,6 +27,7 @@ mod stores;
 mod stream;
 mod syncs;
 mod turning;
+mod why;
 
 pub use batch::{plan_batch, stores_batch, Batch, NewEntry, PlannedBatch, RefusedBatch};
 pub use boot::{boot_meaning, BootMeaning};
@@ -47,6 +48,7 @@ pub use refusal::Refusal;
 pub use stores::{carry_out, new, plan, stores, Planned};
 pub use stream::{stream, Stream};
 pub use syncs::{between_syncs, sync_points};
+pub use why::{why, Place, Why, WrongHash};
 
 /// An image has at most so many bytes: 2.
 pub const LONGEST_IMAGE: u64 = 8_388_608;

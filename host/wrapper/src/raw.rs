@@ -11,12 +11,14 @@ mod boot;
 mod foreign;
 mod merged;
 pub mod plain;
+mod why;
 
 use crate::call;
 pub use batch::{plan_batch, Batch};
 pub use boot::{boot_meaning, BootMeaning};
 pub use foreign::{foreign, Foreign};
 pub use merged::{merged, merged_item, page_merged, Merged, MergedPage, MergedPart};
+pub use why::{why, Why};
 
 /// A part of the image by its place and length, both 0 for the empty part.
 #[repr(C)]

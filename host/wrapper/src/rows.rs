@@ -4,35 +4,40 @@
 pub const ROWS: [(u64, &str, &str); 23] = [
     (
         1,
-        "this is no journal, or only the start of one: it is shorter than a journal's header",
+        "this is no journal or only the start of one, it is shorter than a journal's header, so that \
+         no result is in it: copy it again, or look for the right file",
         "fewer than 256 bytes",
     ),
     (
         2,
-        "the file is too long: at most 8 MiB are taken here",
+        "the file is longer than the 8 MiB that are read here; its results may be right, but none of \
+         them is read: use journalctl for it",
         "more than 8,388,608 bytes",
     ),
     (
         3,
-        "this is no journal: its first bytes are not those of one",
+        "this is no journal, its first bytes are not those of one, so that nothing in it is taken for \
+         a result: look for the right file, or copy it again",
         "signature differs",
     ),
     (
         4,
-        "the file has a form that is not read here, such as compressed: use journalctl for it",
+        "the file has a form that is not read here, such as compressed; its results may be right, but \
+         none of them is read: use journalctl for it",
         "an incompatible bit other than bits 2 and 4",
     ),
     (
         5,
-        "the file's header does not fit it: its end is missing, or it is of a size that is not read \
-         here, and then journalctl may read it",
+        "the file's end is missing, or its header is of a size that is not read here, so that none of \
+         its results is read: copy it again, or use journalctl for it",
         "header_size not 256, 264 or 272, arena_size not a multiple of 8, or their sum above the \
          image length",
     ),
     (
         6,
-        "the file is damaged, an object in it has a wrong type, flag or length: restore it from a \
-         copy",
+        "the file is damaged, an object in it has a wrong type, flag or length, or the last one is \
+         not where its header says, so that its results can't be found, and none of them is read: \
+         copy it again, or restore it from a copy",
         "the walk from the header's end, stopped once past tail_object_offset, misses it (0 \
          included); an object passes the arena's end; type 0; one of flag bits 0 to 2 set; a size \
          wrong: DATA below 65, FIELD below 41, ENTRY below 80 or not 64 + 16n, table below 32 or \
@@ -41,13 +46,17 @@ pub const ROWS: [(u64, &str, &str); 23] = [
     ),
     (
         7,
-        "the file is damaged, its hash tables are not where they belong: restore it from a copy",
+        "the file is damaged, its two hash tables do not stand at its start as its header says, or \
+         there is a third, so that its fields can't be looked up, and none of its results is read: \
+         copy it again, or restore it from a copy",
         "the first two objects are not one data and one field table, a later table stands, or the \
          header does not give the tables' payload offset and size",
     ),
     (
         8,
-        "the file is damaged, a link in it leads to a wrong place: restore it from a copy",
+        "the file is damaged, a link in it leads to a wrong place, so that searches could miss \
+         results or find wrong ones, and none of its results is read: copy it again, or restore it \
+         from a copy",
         "a link not 0 that does not land on an object of its kind: entry_array_offset, array next \
          (strictly later), cell head, next_hash (strictly later, same kind), head_data, \
          next_field (strictly earlier), entry_offset, entry_array; or an ENTRY item that is not \
@@ -55,22 +64,24 @@ pub const ROWS: [(u64, &str, &str); 23] = [
     ),
     (
         9,
-        "the file is damaged, its entries are not all there or not in order: restore it from a \
-         copy",
+        "the file is damaged, its entries are not all there or not in order, so that results could \
+         be missing, and none of them is read: copy it again, or restore it from a copy",
         "n_entries above the chain's items; a committed item that is no ENTRY; offsets or seqnums \
          not strictly rising; seqnum 0; monotonic falling between neighbours of equal boot id",
     ),
     (
         10,
-        "the file is damaged, the list of the entries with some field is wrong: restore it from a \
-         copy",
+        "the file is damaged, the list of the entries with some field is wrong, so that searches \
+         could miss results or find wrong ones, and none of its results is read: copy it again, or \
+         restore it from a copy",
         "a DATA's chain too short for its count, or its list differs from the committed entries \
          that hold it",
     ),
     (
         11,
-        "the file is damaged, a field does not fit its hash or its place in the index: restore it \
-         from a copy",
+        "the file is damaged, a field or an entry does not fit its hash or its place in the index, \
+         so that it may not be what was written, and none of the file's results is read: copy it \
+         again, or restore it from a copy",
         "a hash, item hash (a compact file has none) or xor_hash wrong; a payload without `=` or with nothing before it; a \
          chain object in a wrong cell; two equal payloads or names on the chains; a FIELD's list \
          holding another name; a DATA in a committed entry missing from its cell or its FIELD's \

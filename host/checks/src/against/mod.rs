@@ -13,3 +13,4 @@ pub mod plain;
 pub mod plan;
 pub mod syncs;
 pub mod trial;
+pub mod why;

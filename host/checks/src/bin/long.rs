@@ -4,16 +4,17 @@
 //! many appends everywhere and asks every lookup each time, `.. -- batch 100000` works out so many
 //! batches, `.. -- batch-cuts 100` cuts so many of them everywhere and asks one lookup in nine each time,
 //! `.. -- merged 10000` shows so many pairs of files as one stream, `.. -- foreign 100000` names the
-//! foreign objects of so many images, and `.. -- plain 10000` puts one question in nine to both readers of
-//! so many. A second number is the first seed. It ends with status 1 at the first difference, and leaves
-//! the image in a file, or the two images one after the other.
+//! foreign objects of so many images, `.. -- plain 10000` puts one question in nine to both readers of
+//! so many, and `.. -- why 100000` asks why so many are refused. A second number is the first seed. It
+//! ends with status 1 at the first difference, and leaves the image in a file, or the two images one after
+//! the other.
 use checks::against::batch::Batch;
 use checks::against::plan::{number, Append};
-use checks::against::{batch_cuts, cuts, foreign, merged, plain};
-use checks::generator::dice::{between, once_in};
+use checks::against::{batch_cuts, cuts, foreign, merged, plain, why};
+use checks::generator::dice::{between, once_in, pick};
 use checks::generator::questions::questions;
 use checks::generator::wider::of_refused;
-use checks::generator::{any::any, appends, batches, good, pairs::pair};
+use checks::generator::{any::any, appends, batches, good, mutation, pairs::pair};
 use checks::random::Random;
 use reading::lookup;
 use reading::refusal::refusal;
@@ -34,6 +35,7 @@ fn main() {
             Some("merged") => ("pairs of files", 10_000, stream),
             Some("foreign") => ("images by their foreign objects", 50_000, named),
             Some("plain") => ("images by both readers", 5_000, both),
+            Some("why") => ("images by their faults", 50_000, refused),
             _ => ("images", 50_000, open),
         };
     if what != "images" {
@@ -83,6 +85,19 @@ fn named(random: &mut Random) -> Compared {
     let image = any(random);
     foreign::compare(&image, random.word() >> 8)
         .map(|answer| answer.err().unwrap_or(0))
+        .map_err(|difference| (difference, image))
+}
+
+/// Of images of any kind, and of as many with faults of one number at several places.
+fn refused(random: &mut Random) -> Compared {
+    let number = pick(random, &[6, 8, 9, 10, 11, 11, 11]);
+    let image = match random.below(4) {
+        0 => mutation::crowded(number, random),
+        1 => mutation::scattered(number, random),
+        _ => any(random),
+    };
+    why::compare(&image, random.word() >> 8)
+        .map(|answer| answer.refusal)
         .map_err(|difference| (difference, image))
 }
 

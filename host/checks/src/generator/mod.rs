@@ -9,6 +9,7 @@ pub mod compact;
 pub mod dice;
 pub mod draft;
 mod facts;
+pub mod faulty;
 pub mod foreign;
 pub mod frame;
 pub mod full;

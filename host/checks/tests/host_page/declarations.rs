@@ -112,6 +112,6 @@ fn declared() -> BTreeSet<String> {
 #[test]
 fn every_export() {
     let expected = expected();
-    assert_eq!(expected.len(), 29 + 9);
+    assert_eq!(expected.len(), 30 + 10);
     assert_eq!(declared(), expected);
 }

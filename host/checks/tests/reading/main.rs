@@ -19,3 +19,4 @@ mod plain;
 mod refusals;
 mod set_clock;
 mod stores;
+mod why;

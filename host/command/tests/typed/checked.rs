@@ -57,11 +57,11 @@ fn files_that_take_none() {
         ("untidy", untidy, 14),
     ] {
         let path = file(&folder, name, &image);
-        assert_eq!(append(&path, 1_000_000, &["A=1"]).refused(&path), number);
+        let words = append(&path, 1_000_000, &["A=1"]).failed_with(&path);
+        assert!(words.contains(&format!(" (refusal {number}: ")), "{words}");
         let [opens, appends, _] = lines(&path);
         assert!(opens.starts_with("opens, "), "{opens}");
-        let why = appends.strip_prefix("takes no append: ").expect("none");
-        assert!(why.contains(&format!(" (refusal {number}: ")), "{why}");
+        assert_eq!(appends, format!("takes no append: {words}"));
         assert!(bytes(&path) == image);
     }
 }

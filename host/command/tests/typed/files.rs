@@ -1,4 +1,5 @@
 //! Files that are none, or not to be read, and lengths at the edges.
+use crate::in_full::{everyone, facts, in_full};
 use crate::person::{append, asked, bytes, checked, file, folder, made, program, said};
 use reading::layout::MOST_BYTES;
 use std::fs::{File, Permissions};
@@ -7,10 +8,11 @@ use std::os::unix::process::CommandExt;
 use std::path::Path;
 use std::process::Command;
 
-/// What `list`, `check`, `foreign` and `append` say; it is the same.
+/// What `list`, `check`, `why`, `foreign` and `append` say; it is the same.
 fn all_say(path: &Path) -> String {
     let words = asked("list", path).failed_with(path);
     assert_eq!(asked("check", path).failed_with(path), words);
+    assert_eq!(asked("why", path).failed_with(path), words);
     assert_eq!(asked("foreign", path).failed_with(path), words);
     assert_eq!(append(path, 1, &["A=1"]).failed_with(path), words);
     words
@@ -36,23 +38,21 @@ fn what_is_no_file() {
 fn lengths() {
     let folder = folder("lengths");
     let empty = file(&folder, "empty.journal", b"");
-    let short = "this is no journal, or only the start of one: it is shorter than a journal's \
-                 header (refusal 1: fewer than 256 bytes)";
-    assert_eq!(all_say(&empty), short);
+    assert_eq!(everyone(&empty).number, 1);
     let zeros = file(&folder, "zeros.journal", &[0; 256]);
-    let other = "this is no journal: its first bytes are not those of one \
-                 (refusal 3: signature differs)";
-    assert_eq!(all_say(&zeros), other);
+    assert_eq!(everyone(&zeros).number, 3);
 
     let longest = made(&folder, "longest.journal", &MOST_BYTES.to_string());
     assert_eq!(checked(&longest), "opens, 0 entries\n");
-    let longer = "the file is too long: at most 8 MiB are taken here \
-                  (refusal 2: more than 8,388,608 bytes)";
     let too_long = |length: u64| {
         let file = File::options().write(true).open(&longest);
         file.and_then(|file| file.set_len(length))
             .expect("a length");
-        assert_eq!(all_say(&longest), longer);
+        let full = in_full(&longest);
+        assert_eq!(full.number, 2);
+        let line = format!("{} (refusal 2: {})", full.sentence, full.rule);
+        assert_eq!(asked("list", &longest).failed_with(&longest), line);
+        assert!(facts(&longest).starts_with("refusal 2\n"));
     };
     too_long(MOST_BYTES + 1);
     too_long(1 << 40);

@@ -1,8 +1,9 @@
 //! Help, of all and of each command, and the version.
 use crate::person::{folder, made, program, said};
 
-const COMMANDS: [&str; 11] = [
-    "list", "show", "find", "newest", "values", "check", "foreign", "room", "new", "append", "copy",
+const COMMANDS: [&str; 12] = [
+    "list", "show", "find", "newest", "values", "check", "why", "foreign", "room", "new", "append",
+    "copy",
 ];
 
 /// A command with the first of what is typed after it.
@@ -112,7 +113,11 @@ fn options() {
             }
         }
     }
-    assert_eq!(taken.len(), 7 + 10 + 7 + 2 + 5 + 9 + 11 + 2, "{taken:?}");
+    assert_eq!(
+        taken.len(),
+        7 + 10 + 7 + 1 + 2 + 5 + 9 + 11 + 2,
+        "{taken:?}"
+    );
 }
 
 /// After `--` it is a name.

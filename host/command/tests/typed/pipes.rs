@@ -44,7 +44,7 @@ fn a_pipe_that_is_closed() {
 #[test]
 fn an_answer_that_can_not_be_written() {
     let path = long("full-output");
-    for command in ["list", "check", "foreign"] {
+    for command in ["list", "check", "why", "foreign"] {
         let full = File::options().write(true).open("/dev/full");
         let full = full.expect("it is there");
         let answer = said(program().arg(command).arg(&path).stdout(full));
@@ -65,6 +65,7 @@ fn an_output_that_is_closed() {
     for script in [
         "exec \"$0\" list \"$1\" >&-",
         "exec \"$0\" check \"$1\" >&-",
+        "exec \"$0\" why \"$1\" >&-",
         "exec \"$0\" find \"$1\" --seqnum 1 <&- >&-",
         "exec \"$0\" --help >&-",
     ] {

@@ -100,7 +100,7 @@ fn helped() {
         assert_eq!(text(&["--plain", "help", command]), own);
     }
     for command in [
-        "show", "newest", "check", "foreign", "new", "append", "copy",
+        "show", "newest", "check", "why", "foreign", "new", "append", "copy",
     ] {
         assert!(!text(&["help", command]).contains("--plain"), "{command}");
     }

@@ -1,5 +1,6 @@
 //! Every refusal by its number, and a file that stays as it was.
-use crate::person::{append, asked, bytes, file, folder, made, options, typed};
+use crate::in_full::everyone;
+use crate::person::{append, bytes, file, folder, made, options, typed};
 use checks::corpus::{self, FILES};
 use checks::generator::frame::set;
 use checks::generator::mutation::targeted;
@@ -7,30 +8,6 @@ use checks::random::Random;
 use reading::image::le64;
 use reading::layout::header;
 use reading::refusal::{refusal, CLAUSES};
-use std::path::Path;
-
-/// What every command says of a file that does not open.
-fn all_refuse(path: &Path) -> u64 {
-    let before = bytes(path);
-    let number = asked("check", path).refused(path);
-    let others = [
-        asked("list", path),
-        asked("foreign", path),
-        typed("show", path, &["1"]),
-        typed("find", path, &["--seqnum", "1"]),
-        typed("find", path, &["--time", "1"]),
-        typed("find", path, &["--field", "A=1"]),
-        typed("values", path, &["A"]),
-        typed("newest", path, &["A"]),
-        typed("show", path, &["last"]),
-        append(path, 1, &["A=1"]),
-    ];
-    for said in others {
-        assert_eq!(said.refused(path), number);
-    }
-    assert_eq!(bytes(path), before);
-    number
-}
 
 /// 1 to 11: a damage for each clause.
 #[test]
@@ -44,7 +21,7 @@ fn damaged_files() {
         if number == 0 {
             continue;
         }
-        assert_eq!(all_refuse(&path), number, "{clause:?}");
+        assert_eq!(everyone(&path).number, number, "{clause:?}");
         met[number as usize] += 1;
     }
     assert!(met[1..].iter().all(|&n| n > 0), "{met:?}");
@@ -55,7 +32,7 @@ fn damaged_files() {
 fn real_files() {
     let folder = folder("real");
     let compressed = file(&folder, "compressed", &corpus::compressed());
-    assert_eq!(all_refuse(&compressed), 4);
+    assert_eq!(everyone(&compressed).number, 4);
     for (name, _) in FILES {
         let path = file(&folder, name, &corpus::image(name));
         let before = bytes(&path);

@@ -1,20 +1,22 @@
 //! The one condition that applies to a file, by its header: 4, 5, 12 and 13.
+use crate::in_full::everyone;
 use crate::person::{append, asked, bytes, file, folder, made};
-use crate::two::of_two;
 use checks::corpus;
 use checks::generator::frame::set;
 use reading::layout::header;
 use std::path::Path;
 
-/// What all say who read the file; and the rule.
+/// What all say who read the file.
 fn of(path: &Path, number: u64) -> String {
-    let said = asked("check", path).failed_with(path);
-    assert_eq!(asked("list", path).failed_with(path), said);
-    assert_eq!(append(path, 1, &["A=1"]).failed_with(path), said);
-    let both = [path.to_path_buf(), path.to_path_buf()];
-    assert_eq!(of_two("list", &both, &[]).failed_with(path), said);
-    sentence(said, number)
+    let full = everyone(path);
+    assert_eq!((full.number, &*full.place), (number, "the header"));
+    full.sentence
 }
+
+const UNREAD: &str = "its results may be right, but none of them is read: use journalctl for it";
+const NONE: &str =
+    "so that its results can't be found, and none of them is read: copy it again, or \
+                    restore it from a copy";
 
 fn sentence(said: String, number: u64) -> String {
     let (sentence, rule) = said.split_once(" (refusal ").expect("a rule");
@@ -26,9 +28,10 @@ fn sentence(said: String, number: u64) -> String {
 fn by_a_newer_systemd() {
     let mut image = corpus::image("trixie-k1-c0-system");
     set(&mut image, header::HEADER_SIZE, 280);
-    let longer =
-        "the file was written by a newer systemd, its header has 280 bytes, and 256, 264 or \
-                  272 are read here: use journalctl for it";
+    let longer = format!(
+        "the file is likely of a newer systemd, its header has 280 bytes, and 256, 264 or 272 are read \
+         here; {UNREAD}, or a newer version of this program"
+    );
     let path = file(&folder("why-newer"), "newer.journal", &image);
     assert_eq!(of(&path, 5), longer);
 }
@@ -43,15 +46,17 @@ fn other_forms() {
         of(&file(&folder, "form.journal", &image), 4)
     };
     let compressed = |by: &str| {
-        format!("the file may hold fields compressed by {by}, which are not read here: use journalctl for it")
+        format!("the file may hold fields compressed by {by}, which are not read here; {UNREAD}")
     };
     assert_eq!(flagged(1), compressed("xz"));
     assert_eq!(flagged(8), compressed("zstd"));
     assert_eq!(flagged(2 + 8), compressed("lz4 and zstd"));
     // Being compact is no hindrance.
     assert_eq!(flagged(8 + 16), compressed("zstd"));
-    let unknown = "the file was written by a newer systemd, in a form that is not known here: use \
-                   journalctl for it";
+    let unknown = format!(
+        "the file's header names a form that is not known here, likely of a newer systemd; {UNREAD}, or \
+         a newer version of this program"
+    );
     assert_eq!(flagged(32), unknown);
     assert_eq!(flagged(16 + 64), unknown);
 }
@@ -65,27 +70,33 @@ fn sizes() {
         set(&mut image, at, value);
         of(&file(&folder, "size.journal", &image), 5)
     };
-    let older =
-        "the file was written by an older systemd, its header has 240 bytes, and 256, 264 or \
-                 272 are read here: use journalctl for it";
+    let older = format!(
+        "the file is likely of an older systemd, its header has 240 bytes, and 256, 264 or 272 are read \
+         here; {UNREAD}"
+    );
     assert_eq!(changed(header::HEADER_SIZE, 240), older);
     for size in [7, 257, 271] {
         let damaged = format!(
-            "the file is damaged, its header_size is {size} and not 256, 264 or 272: restore it from \
-             a copy"
+            "the file is damaged, its header has a header_size of {size}, and not 256, 264 or 272, \
+             {NONE}"
         );
         assert_eq!(changed(header::HEADER_SIZE, size), damaged);
     }
     // With a longer header the arena passes the end of the file.
-    let short = "the end of the file is missing, it has 4096 bytes of 4112: restore it from a copy";
-    assert_eq!(changed(header::HEADER_SIZE, 272), short);
-    let odd =
-        "the file is damaged, its arena_size of 3841 is no multiple of 8: restore it from a copy";
+    let short = |length: u64, end: u64| {
+        format!(
+            "the file is shorter than its header says, it has {length} bytes of {end}, so that results \
+             could be missing, and none of them is read: copy it again, or restore it from a copy"
+        )
+    };
+    assert_eq!(changed(header::HEADER_SIZE, 272), short(4_096, 4_112));
+    let odd = format!(
+        "the file is damaged, its header has an arena_size of 3841, no multiple of 8, {NONE}"
+    );
     assert_eq!(changed(header::ARENA_SIZE, 3_841), odd);
-    let short = "the end of the file is missing, it has 4096 bytes of 4104: restore it from a copy";
-    assert_eq!(changed(header::ARENA_SIZE, 3_848), short);
-    let short = "the end of the file is missing, it has 4088 bytes of 4096: restore it from a copy";
-    assert_eq!(of(&file(&folder, "cut.journal", &image[..4_088]), 5), short);
+    assert_eq!(changed(header::ARENA_SIZE, 3_848), short(4_096, 4_104));
+    let cut = file(&folder, "cut.journal", &image[..4_088]);
+    assert_eq!(of(&cut, 5), short(4_088, 4_096));
 }
 
 /// What can be read and takes no append.

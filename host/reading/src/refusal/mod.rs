@@ -2,6 +2,7 @@
 //! whole image before the next. Accepted is 0."
 pub mod clause;
 mod committed;
+pub mod fault;
 mod hashes;
 mod header;
 mod links;
@@ -11,6 +12,8 @@ mod walk;
 
 use super::image::Image;
 pub use clause::{Clause, APPEND_CLAUSES, APPEND_ORDER, CLAUSES};
+pub use fault::Fault;
+pub use hashes::{wrong_hashes, WrongHash};
 
 /// 0, or the lowest number of the table that applies.
 pub fn refusal(bytes: &[u8]) -> u64 {
@@ -22,6 +25,14 @@ pub fn refusal(bytes: &[u8]) -> u64 {
 
 /// All clauses that apply at the lowest number that applies; none if the image is accepted.
 pub fn clauses(bytes: &[u8]) -> Vec<Clause> {
+    let mut found: Vec<Clause> = faults(bytes).iter().map(|fault| fault.clause).collect();
+    found.sort();
+    found.dedup();
+    found
+}
+
+/// The same with every place where one applies, in the order of the tests.
+pub fn faults(bytes: &[u8]) -> Vec<Fault> {
     let mut found = Vec::new();
     for test in [
         header::one,
@@ -33,7 +44,7 @@ pub fn clauses(bytes: &[u8]) -> Vec<Clause> {
     ] {
         test(bytes, &mut found);
         if !found.is_empty() {
-            return tidy(found);
+            return found;
         }
     }
     let image = Image::walked(bytes);
@@ -46,14 +57,8 @@ pub fn clauses(bytes: &[u8]) -> Vec<Clause> {
     ] {
         test(&image, &mut found);
         if !found.is_empty() {
-            return tidy(found);
+            return found;
         }
     }
-    found
-}
-
-fn tidy(mut found: Vec<Clause>) -> Vec<Clause> {
-    found.sort();
-    found.dedup();
     found
 }

@@ -1,22 +1,23 @@
 //! Refusal 7.
 use super::clause::*;
+use super::fault::{Fault, HEADER};
 use crate::image::Image;
 use crate::layout::{header, kind};
 
 /// 7: "the first two objects are not one data and one field table, a later table stands, or
 /// the header does not give the tables' payload offset and size". The two stand in either
-/// order.
-pub fn seven(image: &Image, found: &mut Vec<Clause>) {
+/// order. The place is the header, whichever of these it is.
+pub fn seven(image: &Image, found: &mut Vec<Fault>) {
     for object in image.objects.iter().skip(2) {
         if object.kind == kind::DATA_HASH_TABLE {
-            found.push(LATER_DATA_TABLE);
+            found.push(LATER_DATA_TABLE.at(HEADER));
         }
         if object.kind == kind::FIELD_HASH_TABLE {
-            found.push(LATER_FIELD_TABLE);
+            found.push(LATER_FIELD_TABLE.at(HEADER));
         }
     }
     if image.objects.len() < 2 {
-        found.push(FEWER_THAN_TWO);
+        found.push(FEWER_THAN_TWO.at(HEADER));
         return;
     }
     let (first, second) = (image.objects[0], image.objects[1]);
@@ -24,7 +25,7 @@ pub fn seven(image: &Image, found: &mut Vec<Clause>) {
         (kind::DATA_HASH_TABLE, kind::FIELD_HASH_TABLE) => (first, second),
         (kind::FIELD_HASH_TABLE, kind::DATA_HASH_TABLE) => (second, first),
         _ => {
-            found.push(FIRST_TWO);
+            found.push(FIRST_TWO.at(HEADER));
             return;
         }
     };
@@ -51,7 +52,7 @@ pub fn seven(image: &Image, found: &mut Vec<Clause>) {
         ),
     ] {
         if image.word(at) != value {
-            found.push(clause);
+            found.push(clause.at(HEADER));
         }
     }
 }
