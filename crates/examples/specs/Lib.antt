@@ -7,3 +7,4 @@ pub mod Streams
 pub mod Syncs
 pub mod Whys
 pub mod Batches
+pub mod Texts

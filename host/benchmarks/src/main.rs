@@ -1,6 +1,6 @@
 //! Times the archive against plain Rust: `cargo run --offline --release -p benchmarks`.
 //! Sections are `hashes`, `frame`, `open`, `why`, `compact`, `append`, `tray`, `lookups`, `readers`, `listing`,
-//! `merged` and `hostile`; with their names only those are run.
+//! `merged`, `exchange` and `hostile`; with their names only those are run.
 //!
 //! A ratio of 1.0 or more means that the archive is at least as fast as plain Rust.
 mod append;
@@ -8,6 +8,7 @@ mod asked;
 mod batch;
 mod builder;
 mod compact;
+mod exchange;
 mod frame;
 mod hostile;
 mod listing;
@@ -32,7 +33,7 @@ use wrapper::raw;
 
 fn main() {
     let asked: Vec<String> = std::env::args().skip(1).collect();
-    let sections: [(&str, fn()); 12] = [
+    let sections: [(&str, fn()); 13] = [
         ("hashes", hashes),
         ("frame", frame::frame),
         ("open", open::open),
@@ -44,6 +45,7 @@ fn main() {
         ("readers", readers::readers),
         ("listing", listing::listing),
         ("merged", merged::merged),
+        ("exchange", exchange::exchange),
         ("hostile", hostile::hostile),
     ];
     for (name, section) in sections {

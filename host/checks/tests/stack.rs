@@ -78,6 +78,8 @@ fn lookups(image: &[u8]) {
     assert_eq!(payload, Some(&b"PRIORITY=2"[..]));
     assert_eq!(wrapper::value(image, b"PRIORITY", 0), payload);
     assert_eq!(wrapper::foreign(image, 0), Ok(None));
+    let text = wrapper::export(image, entry).expect("it opens");
+    assert!(text.expect("an entry").ends_with(b"PRIORITY=2\n\n"));
 }
 
 /// The same by the plain reader.

@@ -256,7 +256,7 @@ fn refusals() {
 #[test]
 fn words() {
     assert_eq!(Refusal::new(0), None);
-    let numbers = Vec::from_iter((1..=22).chain([25]));
+    let numbers = Vec::from_iter((1..=25).chain([28]));
     let all = numbers.iter().map(|&it| Refusal::new(it).expect("not 0"));
     let all: Vec<Refusal> = all.collect();
     for (refusal, &number) in all.iter().zip(&numbers) {
@@ -272,6 +272,6 @@ fn words() {
         let mut others = all.iter().filter(|other| *other != refusal);
         assert!(others.all(|other| other.sentence() != sentence && other.row() != row));
     }
-    let unknown = Refusal::new(23).expect("not 0");
+    let unknown = Refusal::new(26).expect("not 0");
     assert_eq!(unknown.row(), "a number that the rules do not have");
 }

@@ -22,14 +22,15 @@ pub fn append(path: &Path, wish: &Wish, manner: &Manner) -> Result<(), Fault> {
     let last = entries.last();
     let fields = packed(&wish.payloads).map_err(refused)?;
     let stamps = wish.stamps.after(last.map_or(0, |entry| entry.seqnum))?;
-    let request = &stamps.request(0, fields.packed());
+    let request = &stamps.request(fields.packed());
     let list = wrapper::stores(&image, request).map_err(|refusal| {
         let append = why::Append {
             image: &image,
             last,
             wished: &wish.stamps,
-            payloads: &wish.payloads,
+            payloads: fields.payloads().collect(),
             request,
+            of_a_text: false,
             next: request.seqnum,
         };
         match append.refused(refusal) {

@@ -1,30 +1,22 @@
-//! What was typed after `append`, of one entry or of a batch.
+//! What was typed after `append`, of one entry or of a batch, and after `import`.
 use crate::arguments::{id, number, time};
 use crate::fault::Fault;
 use crate::stamps::Wished;
 use crate::ways::Way;
 use crate::words::Words;
 use crate::writes::{flags, manner, What, Write};
-use crate::{append, batch};
+use crate::{append, batch, import};
 use std::ffi::OsString;
 use std::os::unix::ffi::OsStringExt;
 use std::path::PathBuf;
 
-/// The options with a value; those of a batch alone come last.
-const NAMES: [&str; 8] = [
-    "--seqnum",
-    "--time",
-    "--monotonic",
-    "--machine",
-    "--boot",
-    "--wait",
-    "--from",
-    "--sync",
-];
+/// The options with a value: those that a text leaves no choice of, and those of `import` too.
+const STAMPS: [&str; 3] = ["--time", "--monotonic", "--boot"];
+const BATCH: [&str; 5] = ["--seqnum", "--machine", "--wait", "--from", "--sync"];
 
 pub fn append(rest: &[OsString]) -> Result<Write, Fault> {
     let (rest, [batch, anyway, quiet]) = flags(rest, ["--batch", "--anyway", "--quiet"]);
-    let mut words = Words::new(&rest, &NAMES)?;
+    let mut words = Words::new(&rest, &[&STAMPS[..], &BATCH].concat())?;
     let payloads = words.plain.drain(1.min(words.plain.len())..);
     let payloads = Vec::from_iter(payloads.map(OsString::into_vec));
     let stamps = Wished {
@@ -61,6 +53,25 @@ pub fn append(rest: &[OsString]) -> Result<Write, Fault> {
     Ok(Write {
         file: file.into(),
         what,
+        manner,
+    })
+}
+
+/// The stamps are those of the text.
+pub fn import(rest: &[OsString]) -> Result<Write, Fault> {
+    let (rest, [quiet]) = flags(rest, ["--quiet"]);
+    let words = Words::new(&rest, &BATCH)?;
+    let wish = import::Wish {
+        seqnum: words.option("--seqnum", number)?,
+        machine: words.option("--machine", id)?,
+        from: words.option("--from", |value| Ok(PathBuf::from(value)))?,
+        way: words.option("--sync", Way::typed)?.unwrap_or(Way::Redo),
+    };
+    let manner = manner(&words, quiet)?;
+    let [file] = words.plain("import FILE and options")?;
+    Ok(Write {
+        file: file.into(),
+        what: What::Import(wish),
         manner,
     })
 }

@@ -40,6 +40,9 @@ pub enum Command {
         files: Files,
         name: Vec<u8>,
     },
+    Export {
+        files: Files,
+    },
     Check {
         file: PathBuf,
     },
@@ -74,6 +77,7 @@ pub fn command(words: &[OsString]) -> Result<Command, Fault> {
         "find" => questions::find(rest),
         "newest" => questions::newest(rest),
         "values" => questions::values(rest),
+        "export" => questions::export(rest),
         "check" => {
             let [file] = Words::new(rest, &[])?.plain("check FILE")?;
             Ok(Command::Check { file: file.into() })
@@ -81,7 +85,7 @@ pub fn command(words: &[OsString]) -> Result<Command, Fault> {
         "why" => questions::why(rest),
         "foreign" => questions::foreign(rest),
         "room" => room::typed(rest).map(Command::Room),
-        "new" | "append" | "copy" => writes::command(name, rest).map(Command::Write),
+        "new" | "append" | "import" | "copy" => writes::command(name, rest).map(Command::Write),
         _ => Err(Fault::usage(format!(
             "no command {}",
             shown(name.as_bytes())

@@ -18,7 +18,8 @@ mod status {
     pub const TYPED_WRONGLY: u8 = 2;
     /// The file can't be read: 1 to 11, and by the plain reader 14.
     pub const UNREADABLE: u8 = 3;
-    /// The file or the entry is not one to append, the new file not one to make: 12 to 17, 20, 25.
+    /// The file or the entry is not one to append, the new file not one to make, the entry or the text not one to
+    /// exchange: 12 to 17, 20, 23 to 25.
     pub const NOT_TAKEN: u8 = 4;
     /// There is no room in the file: 18.
     pub const FULL: u8 = 5;
@@ -114,6 +115,14 @@ impl Fault {
     /// The system refuses.
     pub fn system(file: &Path, error: &Error) -> Fault {
         Fault::of(file, said(error))
+    }
+
+    /// The same, with more to say.
+    pub fn also(mut self, words: Option<&str>) -> Fault {
+        if let Some(words) = words {
+            self.words += &format!("; {words}");
+        }
+        self
     }
 
     /// All that is said, as a line; of `check` with the lines after it.

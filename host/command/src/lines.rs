@@ -1,7 +1,7 @@
 //! The entries of a batch as text: one a line, its fields with tabs between them.
-use crate::fault::{said, Fault};
+use crate::fault::Fault;
+use crate::input;
 use crate::text::typed;
-use std::io::{stdin, Read};
 use std::path::Path;
 
 /// A line that is not empty.
@@ -13,14 +13,9 @@ pub struct Line {
 }
 
 /// All lines of a text file, or of standard input. They are read before anything is appended, so that
-/// nothing is done where one is typed wrongly, and no lock is held while somebody types.
+/// nothing is done where one is typed wrongly.
 pub fn read(from: Option<&Path>) -> Result<Vec<Line>, Fault> {
-    let name = from.unwrap_or(Path::new("standard input"));
-    let text = match from {
-        Some(file) => std::fs::read(file),
-        None => all_of_input(),
-    };
-    let text = text.map_err(|error| Fault::of(name, said(&error)))?;
+    let text = input::read(from)?;
     let lines = text.split(|&byte| byte == b'\n').zip(1..);
     let lines = lines.map(|(line, number)| (line.strip_suffix(b"\r").unwrap_or(line), number));
     lines
@@ -35,10 +30,4 @@ pub fn read(from: Option<&Path>) -> Result<Vec<Line>, Fault> {
             })
         })
         .collect()
-}
-
-fn all_of_input() -> std::io::Result<Vec<u8>> {
-    let mut text = Vec::new();
-    stdin().lock().read_to_end(&mut text)?;
-    Ok(text)
 }

@@ -1,5 +1,6 @@
-//! `journal`: lists, searches and checks journal files, makes them and appends to them. `./run` in
-//! the repository's root builds it and runs it; `./run --help` says how it is used.
+//! `journal`: lists, searches and checks journal files, makes them, appends to them and exchanges their
+//! entries as text. `./run` in the repository's root builds it and runs it; `./run --help` says how it is
+//! used.
 //!
 //! What a file holds and what an append does is told by the proved archive. This program has what
 //! such a library leaves to its host: files, locks, syncs, clocks, ids, words and columns.
@@ -17,15 +18,22 @@ mod columns;
 mod copy;
 mod done;
 mod doubt;
+mod export;
 mod facts;
 mod fault;
 mod files;
 mod foreign;
 mod form;
 mod fresh;
+mod fronts;
 mod help;
+mod help_reads;
+mod help_writes;
 mod ids;
 mod image;
+mod import;
+mod input;
+mod journal;
 mod json;
 mod lines;
 mod new;
@@ -34,6 +42,7 @@ mod payload;
 mod place;
 mod plain;
 mod planned;
+mod progress;
 mod questions;
 mod read;
 mod redo;
@@ -49,6 +58,7 @@ mod stamps;
 mod system;
 mod table;
 mod text;
+mod texts;
 mod times;
 mod ways;
 mod why;
@@ -57,6 +67,7 @@ mod why_damaged;
 mod why_file;
 mod why_new;
 mod why_order;
+mod why_text;
 mod why_walk;
 mod words;
 mod writes;
@@ -116,6 +127,7 @@ fn carry_out(command: Command) -> Result<(), Fault> {
             form,
         } => read::newest(files, &name, &which, form, &mut out)?,
         Command::Values { files, name } => read::values(files, &name, &mut out)?,
+        Command::Export { files } => export::export(files, &mut out)?,
         Command::Check { file } => check::check(&file, &mut out)?,
         Command::Why { file, form } => facts::why(&file, form, &mut out)?,
         Command::Foreign { file, form } => foreign::foreign(&file, &form, &mut out)?,

@@ -88,6 +88,11 @@ pub fn values(rest: &[OsString]) -> Result<Command, Fault> {
     })
 }
 
+pub fn export(rest: &[OsString]) -> Result<Command, Fault> {
+    let (files, []) = Words::new(rest, &[])?.files("export FILE [FILE2]")?;
+    Ok(Command::Export { files })
+}
+
 pub fn why(rest: &[OsString]) -> Result<Command, Fault> {
     let words = Words::new(rest, &["-o"])?;
     let form = words.option("-o", Facts::typed)?.unwrap_or(Facts::Lines);

@@ -3,7 +3,7 @@ use crate::fault::Fault;
 use crate::words::Files;
 use crate::{files, plain};
 use std::collections::HashSet;
-use std::path::PathBuf;
+use std::path::{Path, PathBuf};
 use wrapper::{Entry, Offset, Refusal, Which};
 
 /// An entry; of two files, which one it is from.
@@ -124,6 +124,14 @@ impl Source {
                 let second = second.into_iter().map(|it| (Some(Which::Second), it));
                 Ok(first.chain(second).collect())
             }
+        }
+    }
+
+    /// The file that an entry is from.
+    pub fn path(&self, row: &Row) -> &Path {
+        match self {
+            Source::One(file, _) | Source::Plain(file, _) => file,
+            Source::Two([first, second], _) => row.file.map_or(first, |it| it.of(first, second)),
         }
     }
 

@@ -5,7 +5,7 @@ use crate::{system, times};
 use wrapper::Request;
 
 /// What was asked for; the rest is chosen here.
-#[derive(Clone, Copy)]
+#[derive(Clone, Copy, Default)]
 pub struct Wished {
     pub seqnum: Option<u64>,
     pub realtime: Option<u64>,
@@ -40,12 +40,12 @@ impl Wished {
 }
 
 impl Stamps {
-    /// An append with these stamps, of the n-th entry from 0 that comes with them.
-    pub fn request<'a>(&'a self, n: u64, fields: &'a [u8]) -> Request<'a> {
+    /// An append with these stamps.
+    pub fn request<'a>(&'a self, fields: &'a [u8]) -> Request<'a> {
         Request {
             machine: &self.machine,
             boot: &self.boot,
-            seqnum: self.seqnum.saturating_add(n),
+            seqnum: self.seqnum,
             realtime: self.realtime,
             monotonic: self.monotonic,
             fields,

@@ -10,8 +10,10 @@ pub struct Append<'a> {
     pub image: &'a [u8],
     pub last: Option<&'a Entry<'a>>,
     pub wished: &'a Wished,
-    pub payloads: &'a [Vec<u8>],
+    pub payloads: Vec<&'a [u8]>,
     pub request: &'a Request<'a>,
+    /// Whether its times are those of a text, and were neither typed nor chosen here.
+    pub of_a_text: bool,
     /// The sequence number that a next file has to go on with, should this one be full.
     pub next: u64,
 }
@@ -21,7 +23,7 @@ impl Append<'_> {
     pub fn refused(&self, refusal: Refusal) -> Option<String> {
         match refusal.number() {
             15 => Some(self.machine()),
-            16 => field(self.payloads),
+            16 => field(&self.payloads),
             17 => self.stamps(),
             18 => Some(self.full()),
             _ => None,
@@ -65,6 +67,10 @@ impl Append<'_> {
                 Some(_) => {
                     format!("--monotonic {new}: the last entry, of the same boot, has {old}")
                 }
+                None if self.of_a_text => format!(
+                    "its monotonic time is {new}, and the entry before it in the file, of the same \
+                     boot, has {old}"
+                ),
                 None => format!(
                     "this machine's monotonic clock shows {new}, and the last entry, of the same \
                      boot, has {old}: give --monotonic"
@@ -93,7 +99,7 @@ impl Append<'_> {
 }
 
 /// The first field that can't be taken; or there are too many.
-fn field(payloads: &[Vec<u8>]) -> Option<String> {
+pub fn field(payloads: &[&[u8]]) -> Option<String> {
     let wrong = payloads.iter().zip(1..).find_map(|(payload, place)| {
         let what = wrong(payload)?;
         Some(format!("field {place}, {}: {what}", given(payload)))

@@ -1,11 +1,11 @@
-//! The commands that write, `new`, `append` and `copy`: what was typed after them, and what they do.
+//! The commands that write, `new`, `append`, `import` and `copy`: what was typed after them, and what they do.
 use crate::arguments::{id, number};
 use crate::done::Manner;
 use crate::fault::Fault;
 use crate::files::PATIENCE;
 use crate::sizes::{self, Sizes};
 use crate::words::Words;
-use crate::{append, appends, batch, copy, new};
+use crate::{append, appends, batch, copy, import, new};
 use std::ffi::OsString;
 use std::path::PathBuf;
 use std::time::Duration;
@@ -20,6 +20,7 @@ pub enum What {
     New(new::Wish),
     Append(append::Wish),
     Batch(batch::Wish),
+    Import(import::Wish),
     Copy { to: PathBuf },
 }
 
@@ -29,15 +30,17 @@ pub fn carry_out(write: Write) -> Result<(), Fault> {
         What::New(wish) => new::new(file, wish, manner),
         What::Append(wish) => append::append(file, wish, manner),
         What::Batch(wish) => batch::append(file, wish, manner),
+        What::Import(wish) => import::import(file, wish, manner),
         What::Copy { to } => copy::copy(file, to, manner),
     }
 }
 
-/// The command of one of the three names.
+/// The command of one of the four names.
 pub fn command(name: &str, rest: &[OsString]) -> Result<Write, Fault> {
     match name {
         "new" => new_file(rest),
         "append" => appends::append(rest),
+        "import" => appends::import(rest),
         _ => copied(rest),
     }
 }

@@ -64,6 +64,30 @@ impl Fields {
     pub fn packed(&self) -> &[u8] {
         &self.packed
     }
+
+    /// The payloads `NAME=value`, in order.
+    ///
+    /// ```
+    /// # use wrapper::{Fields, Refusal};
+    /// let mut fields = Fields::new();
+    /// fields.add("LOT", "12")?.add("NOTE", "")?;
+    /// assert!(fields.payloads().eq([&b"LOT=12"[..], b"NOTE="]));
+    /// # Ok::<(), Refusal>(())
+    /// ```
+    pub fn payloads(&self) -> impl Iterator<Item = &[u8]> {
+        let mut rest = &self.packed[..];
+        std::iter::from_fn(move || {
+            let (len, after) = rest.split_first_chunk()?;
+            let (payload, after) = after.split_at(u32::from_le_bytes(*len) as usize);
+            rest = after;
+            Some(payload)
+        })
+    }
+
+    /// Fields that the library packed.
+    pub(crate) fn packed_so(packed: Vec<u8>) -> Fields {
+        Fields { packed }
+    }
 }
 
 fn wrong() -> Refusal {

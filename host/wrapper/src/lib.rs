@@ -5,7 +5,8 @@
 //! Over them: `entries` and `stream` show all entries one after the other, and `foreign_objects` all
 //! objects that are walked over; `Fields` packs the fields of an append and `Batch` the entries of a
 //! batch, `stores` and `stores_batch` are the list of its stores as long as it has to be, and
-//! `between_syncs` has it in the parts between two syncs.
+//! `between_syncs` has it in the parts between two syncs. `export`, `text` and `import` have a buffer of
+//! their own; `export_into` and `text_into` write to one that is lent.
 //!
 //! `raw` has the calls with the numbers that the archive answers, and makes all `unsafe` calls into
 //! it.
@@ -13,6 +14,7 @@ mod batch;
 mod boot;
 mod call;
 mod entries;
+mod exchange;
 mod fields;
 mod foreign;
 mod lookups;
@@ -32,6 +34,7 @@ mod why;
 pub use batch::{plan_batch, stores_batch, Batch, NewEntry, PlannedBatch, RefusedBatch};
 pub use boot::{boot_meaning, BootMeaning};
 pub use entries::{entries, Entries};
+pub use exchange::{export, export_into, import, text, text_into, Exchanged, LONGEST_TEXT};
 pub use fields::Fields;
 pub use foreign::{foreign, foreign_objects, Foreign, ForeignObjects};
 pub use lookups::{

@@ -8,6 +8,7 @@
 
 mod batch;
 mod boot;
+mod exchange;
 mod foreign;
 mod merged;
 pub mod plain;
@@ -16,6 +17,7 @@ mod why;
 use crate::call;
 pub use batch::{plan_batch, Batch};
 pub use boot::{boot_meaning, BootMeaning};
+pub use exchange::{export, import, text, Imported, Text};
 pub use foreign::{foreign, Foreign};
 pub use merged::{merged, merged_item, page_merged, Merged, MergedPage, MergedPart};
 pub use why::{why, Why};

@@ -1,7 +1,7 @@
-//! The refusals 1 to 22 and 25 in words: for each its number, a sentence for a person, and the
+//! The refusals 1 to 25 and 28 in words: for each its number, a sentence for a person, and the
 //! condition as it stands in the rules' tables.
 
-pub const ROWS: [(u64, &str, &str); 23] = [
+pub const ROWS: [(u64, &str, &str); 26] = [
     (
         1,
         "this is no journal or only the start of one, it is shorter than a journal's header, so that \
@@ -162,9 +162,27 @@ pub const ROWS: [(u64, &str, &str); 23] = [
         "not 1 to 32 entries that fill the buffer",
     ),
     (
+        23,
+        "the text is no entry in the Journal Export Format, as where it is cut short or a stamp in it is \
+         wrong: have it exported again",
+        "text that is not such fields and one empty line, a time not 1 to 20 digits within 64 bits, a boot \
+         id not 32 lower-case hex digits or a stamp given twice",
+    ),
+    (
+        24,
+        "the text does not say when its entry was made or in which boot: have it exported with all its \
+         stamps",
+        "a missing stamp: __REALTIME_TIMESTAMP, __MONOTONIC_TIMESTAMP or _BOOT_ID",
+    ),
+    (
         25,
         "the file has a header of 264 bytes, as systemd 252 and 253 made them: it can be read, append \
          to a new file",
         "header_size is 264",
+    ),
+    (
+        28,
+        "the buffer for the answer is too short: lend a longer one",
+        "the lent output or field buffer is too short",
     ),
 ];

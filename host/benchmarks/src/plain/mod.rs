@@ -2,6 +2,7 @@
 //! archive is measured against.
 mod arrays;
 mod bytes;
+pub mod exchange;
 pub mod frame;
 pub mod lookup;
 pub mod merged;

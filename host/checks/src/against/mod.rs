@@ -4,6 +4,7 @@ pub mod batch;
 pub mod batch_cuts;
 pub mod boot;
 pub mod cuts;
+pub mod exchange;
 pub mod foreign;
 pub mod lent;
 pub mod lookups;

@@ -5,16 +5,17 @@
 //! batches, `.. -- batch-cuts 100` cuts so many of them everywhere and asks one lookup in nine each time,
 //! `.. -- merged 10000` shows so many pairs of files as one stream, `.. -- foreign 100000` names the
 //! foreign objects of so many images, `.. -- plain 10000` puts one question in nine to both readers of
-//! so many, and `.. -- why 100000` asks why so many are refused. A second number is the first seed. It
-//! ends with status 1 at the first difference, and leaves the image in a file, or the two images one after
-//! the other.
+//! so many, `.. -- why 100000` asks why so many are refused, and `.. -- exchange 1000000` reads so many
+//! texts and writes what was read, and an image's entries now and then. A second number is the first seed. It
+//! ends with status 1 at the first difference, and leaves the image or the text in a file, or the two images
+//! one after the other.
 use checks::against::batch::Batch;
 use checks::against::plan::{number, Append};
-use checks::against::{batch_cuts, cuts, foreign, merged, plain, why};
+use checks::against::{batch_cuts, cuts, exchange, foreign, merged, plain, why};
 use checks::generator::dice::{between, once_in, pick};
 use checks::generator::questions::questions;
 use checks::generator::wider::of_refused;
-use checks::generator::{any::any, appends, batches, good, mutation, pairs::pair};
+use checks::generator::{any::any, appends, batches, good, mutation, pairs::pair, texts};
 use checks::random::Random;
 use reading::lookup;
 use reading::refusal::refusal;
@@ -36,6 +37,7 @@ fn main() {
             Some("foreign") => ("images by their foreign objects", 50_000, named),
             Some("plain") => ("images by both readers", 5_000, both),
             Some("why") => ("images by their faults", 50_000, refused),
+            Some("exchange") => ("texts", 100_000, exchanged),
             _ => ("images", 50_000, open),
         };
     if what != "images" {
@@ -48,7 +50,7 @@ fn main() {
     let count = numbers.first().copied().unwrap_or(100_000);
     let first = numbers.get(1).copied().unwrap_or(0);
     let start = Instant::now();
-    let mut answers = [0u64; 26];
+    let mut answers = [0u64; 29];
     for n in 0..count {
         let seed = first.wrapping_add(n);
         let random = &mut Random::new(seed.wrapping_mul(0x9e37_79b9_7f4a_7c15));
@@ -63,7 +65,7 @@ fn main() {
         }
         if (n + 1) % every == 0 || n + 1 == count {
             println!(
-                "{} {what} in {} s, no difference; by their answers 0 to 19 {answers:?}",
+                "{} {what} in {} s, no difference; by their answers 0 to 28 {answers:?}",
                 n + 1,
                 start.elapsed().as_secs()
             );
@@ -117,6 +119,31 @@ fn both(random: &mut Random) -> Compared {
     plain::compare(&image, &opened, &some, random.word() >> 8)
         .map(|_| opened.as_ref().err().copied().unwrap_or(0))
         .map_err(|difference| (difference, image.clone()))
+}
+
+/// Of texts of any kind, with what is read of them written again; one time in 64 of an image's entries.
+fn exchanged(random: &mut Random) -> Compared {
+    let tried = random.word() >> 8;
+    if once_in(random, 64) {
+        let image = any(random);
+        let opened = lookup::open(&image);
+        let mut offsets = vec![random.word() >> random.below(64)];
+        if let Ok(journal) = &opened {
+            offsets.extend(journal.image.objects.iter().map(|object| object.offset));
+        }
+        let mut all = offsets.into_iter();
+        return all
+            .try_for_each(|offset| exchange::export(&image, &opened, offset, tried).map(drop))
+            .map(|()| opened.as_ref().err().copied().unwrap_or(0))
+            .map_err(|difference| (difference, image.clone()));
+    }
+    let text = texts::any(random);
+    exchange::import(&text, tried)
+        .and_then(|read| match read {
+            Ok(entry) => exchange::text(&entry.stamps, &entry.fields, tried).map(|_| 0),
+            Err(found) => Ok(found[0].number),
+        })
+        .map_err(|difference| (difference, text))
 }
 
 /// With the case's own list, and with lists of several lengths.

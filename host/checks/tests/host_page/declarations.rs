@@ -4,7 +4,8 @@ use std::collections::BTreeSet;
 use std::path::Path;
 use std::sync::OnceLock;
 
-const STRUCTS: [&str; 4] = [
+const STRUCTS: [&str; 5] = [
+    include_str!("../../../../crates/exchange/src/answer.rt"),
     include_str!("../../../../crates/reading/src/answer.rt"),
     include_str!("../../../../crates/reading/src/merged.rt"),
     include_str!("../../../../crates/reading/src/page.rt"),
@@ -112,6 +113,6 @@ fn declared() -> BTreeSet<String> {
 #[test]
 fn every_export() {
     let expected = expected();
-    assert_eq!(expected.len(), 30 + 10);
+    assert_eq!(expected.len(), 33 + 12);
     assert_eq!(declared(), expected);
 }

@@ -55,7 +55,7 @@ pub fn looked_up(image: &[u8], offset: Offset) -> Entry {
 }
 
 /// The part of the text up to a line's end, and what is after that.
-fn line(text: &[u8]) -> (&[u8], &[u8]) {
+pub fn line(text: &[u8]) -> (&[u8], &[u8]) {
     let end = text.iter().position(|&byte| byte == b'\n');
     let end = end.expect("every line ends");
     (&text[..end], &text[end + 1..])

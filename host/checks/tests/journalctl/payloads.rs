@@ -13,7 +13,7 @@ fn each<T: AsRef<[u8]>>(name: &str, values: &[T]) -> Vec<Vec<u8>> {
 }
 
 /// Each of these lists is the fields of one entry.
-fn kinds() -> Vec<Vec<Vec<u8>>> {
+pub fn kinds() -> Vec<Vec<Vec<u8>>> {
     let mut kinds = Vec::new();
     // Each byte alone and in text, and all of them in one value.
     let all: Vec<u8> = (0..=255).collect();

@@ -7,6 +7,7 @@ mod compact_refused;
 mod corpus;
 mod cuts;
 mod examples;
+mod exchange;
 mod foreign;
 mod forms;
 mod freedoms;

@@ -1,9 +1,9 @@
 //! Help, of all and of each command, and the version.
 use crate::person::{folder, made, program, said};
 
-const COMMANDS: [&str; 12] = [
-    "list", "show", "find", "newest", "values", "check", "why", "foreign", "room", "new", "append",
-    "copy",
+const COMMANDS: [&str; 14] = [
+    "list", "show", "find", "newest", "values", "export", "check", "why", "foreign", "room", "new",
+    "append", "import", "copy",
 ];
 
 /// A command with the first of what is typed after it.
@@ -115,7 +115,7 @@ fn options() {
     }
     assert_eq!(
         taken.len(),
-        7 + 10 + 7 + 1 + 2 + 5 + 9 + 11 + 2,
+        7 + 10 + 7 + 1 + 2 + 5 + 9 + 11 + 6 + 2,
         "{taken:?}"
     );
 }

@@ -1,6 +1,7 @@
 //! The program `journal` as a person types it: what it prints, what it says on standard error, the
 //! status it ends with, and what becomes of the file.
 mod appending;
+mod banks;
 mod batch_refused;
 mod batch_typed;
 mod batches;
@@ -9,12 +10,19 @@ mod copying;
 mod cut;
 mod doubtful;
 mod expected;
+mod exports;
+mod exports_refused;
 mod files;
 mod foreign;
 mod forms;
 mod given_back;
 mod headers;
 mod helped;
+mod imports;
+mod imports_bad;
+mod imports_ended;
+mod imports_refused;
+mod imports_typed;
 mod in_full;
 mod json;
 mod locked;

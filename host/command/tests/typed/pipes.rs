@@ -40,11 +40,30 @@ fn a_pipe_that_is_closed() {
     assert_eq!(child.wait().expect("it ends").signal(), Some(sigpipe));
 }
 
+/// The same of a text, in which each entry has five lines.
+#[test]
+fn a_text_that_nobody_reads() {
+    let mut child = program()
+        .arg("export")
+        .arg(long("closed-text"))
+        .stdout(Stdio::piped())
+        .stderr(Stdio::piped())
+        .spawn()
+        .expect("it runs");
+    let lines = BufReader::new(child.stdout.take().expect("a pipe")).lines();
+    let sixth = lines.map(|line| line.expect("text")).nth(5);
+    assert_eq!(sixth.as_deref(), Some("__REALTIME_TIMESTAMP=2"));
+    let ended = child.wait_with_output().expect("it ends");
+    assert_eq!(ended.stderr, b"");
+    let sigpipe = 13;
+    assert_eq!(ended.status.signal(), Some(sigpipe));
+}
+
 /// A disk that takes no answer is not taken for success.
 #[test]
 fn an_answer_that_can_not_be_written() {
     let path = long("full-output");
-    for command in ["list", "check", "why", "foreign"] {
+    for command in ["list", "export", "check", "why", "foreign"] {
         let full = File::options().write(true).open("/dev/full");
         let full = full.expect("it is there");
         let answer = said(program().arg(command).arg(&path).stdout(full));
@@ -64,6 +83,7 @@ fn an_output_that_is_closed() {
     };
     for script in [
         "exec \"$0\" list \"$1\" >&-",
+        "exec \"$0\" export \"$1\" >&-",
         "exec \"$0\" check \"$1\" >&-",
         "exec \"$0\" why \"$1\" >&-",
         "exec \"$0\" find \"$1\" --seqnum 1 <&- >&-",

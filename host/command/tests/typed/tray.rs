@@ -38,8 +38,8 @@ pub struct Planned {
 }
 
 /// The stamps of every batch here, but for the sequence numbers.
-const REALTIME: u64 = 1_700_000_000_000_000;
-const MONOTONIC: u64 = 50;
+pub const REALTIME: u64 = 1_700_000_000_000_000;
+pub const MONOTONIC: u64 = 50;
 
 pub fn planned(image: &[u8], first: u64, results: &[Vec<String>]) -> Planned {
     let mut after = image.to_vec();

@@ -75,6 +75,12 @@ fn wrong_words() {
             &["values", file, "\\x4"],
             "NAME \\\\x4: a backslash is typed as ",
         ),
+        (&["export"], "the command is export FILE [FILE2] ("),
+        (
+            &["export", file, file, file],
+            "the command is export FILE [FILE2] (",
+        ),
+        (&["export", file, "-n", "1"], "no option -n ("),
         (&["check"], "the command is check FILE ("),
         (&["check", file, file], "the command is check FILE ("),
         (&["why"], "the command is why FILE ("),
@@ -151,6 +157,17 @@ fn wrong_words() {
         (
             &["append", file, "--wait", "soon", "A=1"],
             "--wait soon: no number",
+        ),
+        (&["import"], "the command is import FILE and options ("),
+        (
+            &["import", file, "A=1"],
+            "the command is import FILE and options (",
+        ),
+        (&["import", file, "--time", "1"], "no option --time ("),
+        (&["import", file, "--anyway"], "no option --anyway ("),
+        (
+            &["import", file, "--sync", "no"],
+            "--sync no: it is redo, places or end (",
         ),
         (&["copy", file], "the command is copy FILE TO ("),
         (

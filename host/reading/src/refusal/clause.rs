@@ -173,5 +173,25 @@ clauses! { FRAME_CLAUSES:
     FIELDS_CUT_SHORT = 22, "fewer bytes left than an entry's fields have";
 }
 
+// Refusals of a text, and of what is lent for one or for its fields: "in reading 23 for text that is not such
+// fields and one empty line, a time not 1 to 20 digits within 64 bits, a boot id not so written or a stamp
+// given twice, 24 for a missing stamp, then 16, .. and 28".
+clauses! { TEXT_CLAUSES:
+    NO_EMPTY_LINE = 23, "no empty line";
+    LINE_CUT_SHORT = 23, "a line without its newline";
+    LENGTH_CUT_SHORT = 23, "fewer than 8 bytes left for a length";
+    VALUE_CUT_SHORT = 23, "fewer bytes left than a length says";
+    NO_NEWLINE_BEHIND = 23, "no newline behind a value with a length";
+    BYTES_BEHIND = 23, "bytes behind the empty line";
+    TIME_DIGITS = 23, "a time not 1 to 20 digits";
+    TIME_ABOVE = 23, "a time above 64 bits";
+    BOOT_ID_DIGITS = 23, "a boot id not 32 lower-case hex digits";
+    STAMP_TWICE = 23, "a stamp given twice";
+    NO_REALTIME = 24, "no __REALTIME_TIMESTAMP";
+    NO_MONOTONIC = 24, "no __MONOTONIC_TIMESTAMP";
+    NO_BOOT_ID = 24, "no _BOOT_ID";
+    OUTPUT_SHORT = 28, "the lent output is too short";
+}
+
 /// The numbers of an append's refusals in the order of their tests.
 pub const APPEND_ORDER: [u64; 9] = [12, 25, 13, 14, 15, 16, 17, 18, 19];

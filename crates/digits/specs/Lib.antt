@@ -1,0 +1,2 @@
+-- Digits, decimal and hexadecimal.
+pub mod Times

@@ -1,0 +1,2 @@
+-- A text that is read and appended.
+pub mod Appended
