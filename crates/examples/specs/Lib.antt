@@ -8,3 +8,4 @@ pub mod Syncs
 pub mod Whys
 pub mod Batches
 pub mod Texts
+pub mod Summaries

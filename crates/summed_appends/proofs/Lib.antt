@@ -1,0 +1,6 @@
+-- Laws: a summary and an append.
+pub mod FieldsKept
+pub mod CountsKept
+pub mod JournalBefore
+pub mod SameAnswer
+pub mod BroughtForward

@@ -1,0 +1,2 @@
+-- A summary and an append.
+pub mod BroughtForward
