@@ -30,10 +30,10 @@ use Rattle.summary.specs.Summary.{countsBy, summaryOf}
 use Rattle.summary.specs.Forward.{recordsIn, summaryWrong, otherJournal, forwarded}
 use Rattle.summary.proofs.StepLaws.{counts-last}
 use Rattle.summary.proofs.BoundLaws.{summary-records, summary-id, summary-count, summary-last, summary-right}
-use Rattle.summed_appends.specs.BroughtForward.{BroughtForward}
+use Rattle.summed_appends.specs.BroughtForward.{BroughtForward, IsBroughtForward}
 use Rattle.summed_appends.proofs.CountsKept.{counts-kept}
 use Rattle.summed_appends.proofs.JournalBefore.{some-committed, before-is, same-journal}
-use Rattle.summed_appends.proofs.SameAnswer.{same-answer}
+use Rattle.summed_appends.proofs.SameAnswer.{same-answer, afresh-fits}
 
 module _ (img : Image) (r : Request) (a : Accepted img r) where
   -- the file before the append
@@ -100,3 +100,9 @@ pub brought-forward : BroughtForward
 brought-forward img r listBytes room given clear =
     let a = accepted img r listBytes clear given in
     same-answer (appended img r) (summaryOf (model img)) room (opens img r a .opens) (right img r a) (same img r a) (forward img r a)
+
+-- which is the new file's summary
+pub is-brought-forward : IsBroughtForward
+is-brought-forward img r listBytes room given clear l =
+    brought-forward img r listBytes room given clear
+    ∙ afresh-fits (appended img r) room (opens img r (accepted img r listBytes clear given) .opens) l

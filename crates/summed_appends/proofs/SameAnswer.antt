@@ -3,8 +3,9 @@
 use mathlib.Core.Path.{_≡_, refl, sym, ap, _∙_}
 use mathlib.Core.Bool.{Bool, true, false}
 use mathlib.Core.List.{List, [], _∷_}
-use Prim.Native.Nat.{ℕ, zero, suc}
+use Prim.Native.Nat.{ℕ, zero, suc, _≤_}
 use lib.Dec.{ltb}
+use borrow.Author.Tests.{le-ltb}
 use Rattle.format.specs.Rows.{lowest}
 use Rattle.format.specs.Header.{Image}
 use Rattle.format.specs.File.{model}
@@ -33,6 +34,10 @@ afresh-opened : (img : Image) (room : ℕ) → refusal img ≡ 0
     → summed img room ≡ elim (ltb room (roomFor (model img))) [ true ↦ refusedSummary 28 | false ↦ someSummary (summaryOf (model img)) ]
 unfolding summed
 afresh-opened img room e = rw (summed, e)
+
+-- with room enough it is the file's summary
+pub afresh-fits : (img : Image) (room : ℕ) → refusal img ≡ 0 → roomFor (model img) ≤ room → summed img room ≡ someSummary (summaryOf (model img))
+afresh-fits img room e l = afresh-opened img room e ∙ rw (le-ltb room (roomFor (model img)) l)
 
 -- the summary brought forward is the one worked out afresh
 pub same-answer : (img : Image) (old : List ℕ) (room : ℕ) → refusal img ≡ 0 → summaryWrong img old ≡ false → otherJournal (model img) old ≡ false
