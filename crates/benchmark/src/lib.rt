@@ -1,3 +1,4 @@
+#![tactic(auto)]
 // What the benchmark measures and a host does not call by itself. No call asks anything of its image.
 pub mod lookups;
 pub mod question;

@@ -4,7 +4,7 @@ ghost use Rattle.benchmark.specs.Answer.{question_of};
 
 // What an argument is: a place, a sequence number, a wall time, a place among the entries that hold a payload, the offset of the
 // entry whose item is asked for, a place among a field's values, or the offset of the entry whose stamps are.
-#[derive(Drop)]
+#[derive(Clone, Copy)]
 pub enum Question {
     Entry,
     Seqnum,

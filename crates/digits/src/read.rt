@@ -16,7 +16,7 @@ const BOOT_DIGITS: usize = 32;
 const LARGEST: u64 = 0xffff_ffff_ffff_ffff;
 
 // A time: whether it is wrong, and 0 then; or the number that its digits are.
-#[derive(Drop)]
+#[derive(Clone, Copy)]
 pub struct Time {
     pub wrong: bool,
     pub value: u64,

@@ -82,7 +82,7 @@ fn block(s: Abc, bytes: &[u8], at: usize) -> Abc
 }
 
 // The three words of a block of twelve bytes, lookup3.c's k[0], k[1] and k[2].
-#[derive(Drop)]
+#[derive(Clone, Copy)]
 struct Words {
     k0: u32,
     k1: u32,
@@ -117,7 +117,7 @@ fn last_block(s: Abc, bytes: &[u8], at: usize) -> Abc
 }
 
 // The loop over whole blocks: the words after it, and where the last block starts.
-#[derive(Drop)]
+#[derive(Clone, Copy)]
 pub struct Mixed {
     pub s: Abc,
     pub at: usize,

@@ -1,2 +1,3 @@
+#![tactic(auto)]
 // Little-endian numbers, rotations, and sums that wrap.
 pub mod number;

@@ -1,3 +1,4 @@
+#![tactic(auto)]
 // Prints both hashes of published inputs and of payloads as journals hold them; `stdout` has what is published.
 use libc::STDOUT_FILENO;
 

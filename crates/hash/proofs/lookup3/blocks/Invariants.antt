@@ -1,0 +1,14 @@
+-- `hash::lookup3::blocks` meets its contract. At a block's start the words are those after the turns for the blocks before.
+use mathlib.Core.Path.{◌≡◌, ap, ◌∙◌}
+use Prim.Native.Nat.{suc, ◌+◌, ◌-◌, ◌*◌, ◌/◌, ◌<◌}
+use native.Mathlib.Omega.{arith}
+use lib.ListN.{length}
+use borrow.Author.Rules.{rules}
+use Rattle.format.specs.Lookup3.{mixed, last_block}
+use Rattle.hash.proofs.lookup3.blocks.Given as goal
+
+abbrev pub invariant-loop-at : goal.invariant-loop-at
+invariant-loop-at l = (l.at < length l.bytes) × (l.at / 12 * 12 ≡ l.at) × (l.s ≡ mixed l.bytes (l.at / 12))
+
+abbrev pub decreases-loop-at : goal.decreases-loop-at
+decreases-loop-at l = length l.bytes - l.at

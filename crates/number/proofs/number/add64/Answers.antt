@@ -1,0 +1,8 @@
+-- `number::number::add64` meets its contract. The sum that wraps is `plus` at 64 bits.
+use Rattle.format.specs.Number.{plus}
+use Rattle.std.proofs.Common.{rules}
+use Rattle.number.proofs.number.add64.Goals as goal
+
+pub returns : goal.returns
+unfolding plus
+returns c = search rules
