@@ -1,1 +1,3 @@
+#![tactic(auto)]
+
 // What a bank reads of a salvage. Theorems, nothing to call.
