@@ -10,7 +10,7 @@ use lib.Bits.{bit_and}
 use lib.ListN.{length}
 use Rattle.format.specs.Number.{number, number_at}
 use Rattle.format.specs.Tests.{same}
-use Rattle.format.specs.Header.{Image, is_header_size, first_object, header_word, header_size, header_id, compatible_flags, incompatible_flags, boot_of_tail, signature, seqnum_id}
+use Rattle.format.specs.Header.{Image, is_header_size, first_object, header_word, header_size, header_id, compatible_flags, incompatible_flags, boot_of_tail, signature}
 use Rattle.format.specs.Store.{bytes_of}
 use Rattle.format.specs.File.{model}
 use Rattle.format.specs.Refusal.{signature_fault, flags_fault}
