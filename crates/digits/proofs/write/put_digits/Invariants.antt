@@ -1,0 +1,16 @@
+-- `digits::write::put_digits` meets its contract. The digits written and those still to write are together as before.
+use native.Mathlib.Nat.{mod-lt}
+use native.Mathlib.Omega.{arith}
+use Prim.Native.Nat.{◌≤◌}
+use mathlib.Core.Path.{◌≡◌, refl, sym, ◌∙◌}
+use lib.ListN.{length, length-set}
+use Rattle.exchange.specs.Digits.{digits_of}
+use Rattle.exchange.specs.Export.{laid}
+use Rattle.digits.proofs.PutLaws.{digits_turn, digits_end}
+use Rattle.digits.proofs.write.put_digits.Given as goal
+
+abbrev pub invariant-loop-i : goal.invariant-loop-i
+invariant-loop-i l = (l.i ≤ l.k) × (length l.text ≡ length l.initial.text) × (laid l.at (digits_of l.base l.i l.left) l.text ≡ laid l.at (digits_of l.base l.k l.n) l.initial.text)
+
+abbrev pub decreases-loop-i : goal.decreases-loop-i
+decreases-loop-i l = l.i

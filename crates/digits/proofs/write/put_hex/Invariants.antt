@@ -1,0 +1,16 @@
+-- `digits::write::put_hex` meets its contract. The bytes written and those still to write are together as before.
+use native.Mathlib.Omega.{arith}
+use Prim.Native.Nat.{◌+◌, ◌-◌, ◌*◌, ◌≤◌}
+use mathlib.Core.Path.{◌≡◌, refl, sym, ◌∙◌}
+use lib.ListN.{length}
+use Rattle.format.specs.Store.{bytes_of}
+use Rattle.exchange.specs.Digits.{hex_of}
+use Rattle.exchange.specs.Export.{laid}
+use Rattle.digits.proofs.PutLaws.{hex_turn, hex_end}
+use Rattle.digits.proofs.write.put_hex.Given as goal
+
+abbrev pub invariant-loop-i : goal.invariant-loop-i
+invariant-loop-i l = (l.i ≤ 8) × (length l.text ≡ length l.initial.text) × (laid (l.at + 2 * l.i) (hex_of (bytes_of (8 - l.i) l.left)) l.text ≡ laid l.at (hex_of (bytes_of 8 l.word)) l.initial.text)
+
+abbrev pub decreases-loop-i : goal.decreases-loop-i
+decreases-loop-i l = 8 - l.i
