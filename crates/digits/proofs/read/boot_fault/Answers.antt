@@ -1,6 +1,5 @@
 -- `digits::read::boot_fault` meets its contract.
 use mathlib.Core.Path.{sym, ◌∙◌}
-use borrow.Author.Rules.{rules}
 use Rattle.digits.proofs.HexLaws.{boot_sized, boot_bytes_lem}
 use Rattle.digits.proofs.read.boot_fault.Goals as goal
 

@@ -1,6 +1,5 @@
 -- `digits::read::digit_value` meets its contract.
 use mathlib.Core.Path.{sym}
-use borrow.Author.Rules.{rules}
 use native.Mathlib.Omega.{arith}
 use Rattle.digits.proofs.ReadLaws.{value_below, value_decimal, value_between, value_letter, value_above}
 use Rattle.digits.proofs.read.digit_value.Goals as goal

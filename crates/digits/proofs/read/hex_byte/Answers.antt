@@ -1,5 +1,4 @@
 -- `digits::read::hex_byte` meets its contract.
-use borrow.Author.Rules.{rules}
 use native.Mathlib.Omega.{arith}
 use Rattle.digits.proofs.HexLaws.{hex_byte, hex_small}
 use Rattle.digits.proofs.read.hex_byte.Goals as goal

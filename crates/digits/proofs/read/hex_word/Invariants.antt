@@ -1,11 +1,8 @@
 -- `digits::read::hex_word` meets its contract. The word so far is the number of the bytes taken, from the last on.
-use mathlib.Core.Path.{◌≡◌, ◌∙◌}
+use mathlib.Core.Path.{◌≡◌}
 use Prim.Native.Nat.{◌+◌, ◌-◌, ◌≤◌}
-use borrow.Author.Rules.{rules}
-use native.Mathlib.Omega.{arith}
 use Rattle.format.specs.Number.{number_at}
 use Rattle.exchange.specs.Digits.{hex_bytes}
-use Rattle.digits.proofs.HexLaws.{hex_small, seven_small, word_start, word_turn, word_end}
 use Rattle.digits.proofs.read.hex_word.Given as goal
 
 abbrev pub invariant-loop-i : goal.invariant-loop-i

@@ -1,10 +1,9 @@
 -- `digits::read::odd_digit` meets its contract. What is left has a byte that is no digit where the whole has one.
-use mathlib.Core.Path.{◌≡◌, refl, sym, ◌∙◌}
-use Prim.Native.Nat.{◌-◌, ◌≤◌}
-use lib.ListN.{length, drop, get_or}
+use mathlib.Core.Path.{refl, sym, ◌∙◌}
+use lib.ListN.{get_or}
 use borrow.Author.Rules.{rules}
 use native.Mathlib.Omega.{arith}
-use Rattle.digits.proofs.ReadLaws.{has_odd, odd_turn, odd_end, odd_value, even_value}
+use Rattle.digits.proofs.ReadLaws.{odd_turn, odd_end, odd_value, even_value}
 use Rattle.digits.proofs.read.odd_digit.Goals as goal
 
 pub loop-i-init : goal.loop-i-init

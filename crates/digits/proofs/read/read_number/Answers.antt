@@ -1,7 +1,5 @@
 -- `digits::read::read_number` meets its contract. The number of all digits is that of those left behind the number so far.
 use mathlib.Core.Path.{◌≡◌, refl, sym, ◌∙◌}
-use Prim.Native.Nat.{◌-◌, ◌≤◌, ◌<◌, ◌^◌}
-use lib.ListN.{length, drop}
 use borrow.Author.Rules.{rules}
 use native.Mathlib.Omega.{arith}
 use Rattle.exchange.specs.Digits.{read_digits}

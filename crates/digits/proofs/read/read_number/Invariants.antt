@@ -1,11 +1,8 @@
 -- `digits::read::read_number` meets its contract. The number of all digits is that of those left behind the number so far.
-use mathlib.Core.Path.{◌≡◌, refl, sym, ◌∙◌}
+use mathlib.Core.Path.{◌≡◌}
 use Prim.Native.Nat.{◌-◌, ◌≤◌, ◌<◌, ◌^◌}
 use lib.ListN.{length, drop}
-use borrow.Author.Rules.{rules}
-use native.Mathlib.Omega.{arith}
 use Rattle.exchange.specs.Digits.{read_digits}
-use Rattle.digits.proofs.ReadLaws.{read_turn, read_end, read_large, time_large, time_right}
 use Rattle.digits.proofs.read.read_number.Given as goal
 
 abbrev pub invariant-loop-i : goal.invariant-loop-i

@@ -1,6 +1,5 @@
 -- `digits::read::read_time` meets its contract.
 use mathlib.Core.Path.{sym, ◌∙◌}
-use borrow.Author.Rules.{rules}
 use native.Mathlib.Omega.{arith}
 use Rattle.digits.proofs.ReadLaws.{time_empty, time_long_lem, time_odd}
 use Rattle.digits.proofs.read.read_time.Goals as goal

@@ -1,5 +1,4 @@
 -- `digits::write::digit` meets its contract.
-use borrow.Author.Rules.{rules}
 use borrow.Author.Tests.{lt-ltb, le-ltb}
 use Rattle.exchange.specs.Digits.{digit}
 use Rattle.digits.proofs.write.digit.Goals as goal

@@ -1,10 +1,7 @@
 -- `digits::write::digit_count` meets its contract. The digits counted and those of what is left are together as before.
-use native.Mathlib.Omega.{arith}
 use Prim.Native.Nat.{suc, ◌+◌, ◌-◌, ◌^◌, ◌≤◌, ◌<◌}
 use mathlib.Core.Path.{◌≡◌}
 use Rattle.exchange.specs.Digits.{digit_count}
-use Rattle.exchange.proofs.DigitLaws.{count_one_lem, count_more}
-use Rattle.digits.proofs.CountLaws.{tenth_room, tenth_below}
 use Rattle.digits.proofs.write.digit_count.Given as goal
 
 abbrev pub invariant-loop-left : goal.invariant-loop-left

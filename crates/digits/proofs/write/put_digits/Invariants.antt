@@ -1,12 +1,9 @@
 -- `digits::write::put_digits` meets its contract. The digits written and those still to write are together as before.
-use native.Mathlib.Nat.{mod-lt}
-use native.Mathlib.Omega.{arith}
 use Prim.Native.Nat.{◌≤◌}
-use mathlib.Core.Path.{◌≡◌, refl, sym, ◌∙◌}
-use lib.ListN.{length, length-set}
+use mathlib.Core.Path.{◌≡◌}
+use lib.ListN.{length}
 use Rattle.exchange.specs.Digits.{digits_of}
 use Rattle.exchange.specs.Export.{laid}
-use Rattle.digits.proofs.PutLaws.{digits_turn, digits_end}
 use Rattle.digits.proofs.write.put_digits.Given as goal
 
 abbrev pub invariant-loop-i : goal.invariant-loop-i

@@ -1,12 +1,10 @@
 -- `digits::write::put_hex` meets its contract. The bytes written and those still to write are together as before.
-use native.Mathlib.Omega.{arith}
 use Prim.Native.Nat.{◌+◌, ◌-◌, ◌*◌, ◌≤◌}
-use mathlib.Core.Path.{◌≡◌, refl, sym, ◌∙◌}
+use mathlib.Core.Path.{◌≡◌}
 use lib.ListN.{length}
 use Rattle.format.specs.Store.{bytes_of}
 use Rattle.exchange.specs.Digits.{hex_of}
 use Rattle.exchange.specs.Export.{laid}
-use Rattle.digits.proofs.PutLaws.{hex_turn, hex_end}
 use Rattle.digits.proofs.write.put_hex.Given as goal
 
 abbrev pub invariant-loop-i : goal.invariant-loop-i

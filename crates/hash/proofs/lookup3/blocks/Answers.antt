@@ -1,8 +1,7 @@
 -- `hash::lookup3::blocks` meets its contract. At a block's start the words are those after the turns for the blocks before.
 use mathlib.Core.Path.{◌≡◌, ap, ◌∙◌}
-use Prim.Native.Nat.{suc, ◌+◌, ◌-◌, ◌*◌, ◌/◌, ◌<◌}
+use Prim.Native.Nat.{suc, ◌+◌, ◌/◌}
 use native.Mathlib.Omega.{arith}
-use lib.ListN.{length}
 use borrow.Author.Rules.{rules}
 use Rattle.format.specs.Lookup3.{mixed, last_block}
 use Rattle.hash.proofs.lookup3.blocks.Goals as goal

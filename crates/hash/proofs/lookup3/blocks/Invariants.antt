@@ -1,10 +1,8 @@
 -- `hash::lookup3::blocks` meets its contract. At a block's start the words are those after the turns for the blocks before.
-use mathlib.Core.Path.{◌≡◌, ap, ◌∙◌}
-use Prim.Native.Nat.{suc, ◌+◌, ◌-◌, ◌*◌, ◌/◌, ◌<◌}
-use native.Mathlib.Omega.{arith}
+use mathlib.Core.Path.{◌≡◌}
+use Prim.Native.Nat.{◌-◌, ◌*◌, ◌/◌, ◌<◌}
 use lib.ListN.{length}
-use borrow.Author.Rules.{rules}
-use Rattle.format.specs.Lookup3.{mixed, last_block}
+use Rattle.format.specs.Lookup3.{mixed}
 use Rattle.hash.proofs.lookup3.blocks.Given as goal
 
 abbrev pub invariant-loop-at : goal.invariant-loop-at

@@ -1,7 +1,6 @@
 -- `hash::lookup3::final_lines` meets its contract. Each step is what its callee ensures.
 use Rattle.format.specs.Lookup3.{final_lines}
 use mathlib.Core.Path.{refl}
-use borrow.Author.Rules.{rules}
 use Rattle.hash.proofs.lookup3.final_lines.Goals as goal
 
 pub returns : goal.returns

@@ -1,7 +1,6 @@
 -- `hash::lookup3::final_mix` meets its contract. Each step is what its callee ensures.
 use Rattle.format.specs.Lookup3.{final}
 use mathlib.Core.Path.{refl}
-use borrow.Author.Rules.{rules}
 use Rattle.hash.proofs.lookup3.final_mix.Goals as goal
 
 pub returns : goal.returns

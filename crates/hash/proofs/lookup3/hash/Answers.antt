@@ -2,7 +2,6 @@
 use borrow.Author.Tests.{eq-eqb, ne_eqb}
 use Rattle.format.specs.Number.{plus}
 use Rattle.format.specs.Lookup3.{start, hashlittle2}
-use borrow.Author.Rules.{rules}
 use Rattle.hash.proofs.lookup3.hash.Goals as goal
 
 pub returns-then-bytes-eq0 : goal.returns-then-bytes-eq0

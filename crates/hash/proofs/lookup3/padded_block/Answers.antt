@@ -4,7 +4,6 @@ use Prim.Native.Nat.{◌+◌}
 use native.Mathlib.Omega.{arith}
 use Rattle.format.specs.Number.{number_at}
 use Rattle.format.proofs.LastBlock.{number_at_left}
-use borrow.Author.Rules.{rules}
 use Rattle.hash.proofs.lookup3.padded_block.Goals as goal
 
 pub returns : goal.returns

@@ -4,7 +4,6 @@ use Prim.Native.Nat.{◌+◌, ◌%◌, ◌^◌}
 use native.Mathlib.Omega.{arith}
 use Rattle.format.specs.Number.{plus}
 use Rattle.format.specs.Lookup3.{start}
-use borrow.Author.Rules.{rules}
 use Rattle.hash.proofs.lookup3.started.Goals as goal
 
 pub returns : goal.returns

@@ -1,7 +1,6 @@
 -- `hash::siphash::compression` meets its contract. Each step is what its callee ensures.
 use Rattle.format.specs.SipHash.{compression}
 use mathlib.Core.Path.{refl}
-use borrow.Author.Rules.{rules}
 use Rattle.hash.proofs.siphash.compression.Goals as goal
 
 pub returns : goal.returns

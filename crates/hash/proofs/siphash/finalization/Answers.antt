@@ -1,7 +1,6 @@
 -- `hash::siphash::finalization` meets its contract. Each step is what its callee ensures.
 use Rattle.format.specs.SipHash.{finalization}
 use mathlib.Core.Path.{refl}
-use borrow.Author.Rules.{rules}
 use Rattle.hash.proofs.siphash.finalization.Goals as goal
 
 pub returns : goal.returns

@@ -1,7 +1,6 @@
 -- `hash::siphash::hash` meets its contract. Each step is what its callee ensures.
 use Rattle.format.specs.SipHash.{sip_hash24}
 use mathlib.Core.Path.{refl}
-use borrow.Author.Rules.{rules}
 use Rattle.hash.proofs.siphash.hash.Goals as goal
 
 pub returns : goal.returns

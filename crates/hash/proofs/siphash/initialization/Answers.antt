@@ -1,7 +1,6 @@
 -- `hash::siphash::initialization` meets its contract. Each step is what its callee ensures.
 use Rattle.format.specs.SipHash.{initialization}
 use mathlib.Core.Path.{refl}
-use borrow.Author.Rules.{rules}
 use Rattle.hash.proofs.siphash.initialization.Goals as goal
 
 pub returns : goal.returns

@@ -1,6 +1,5 @@
 -- `hash::siphash::last_word` meets its contract. Each step is what its callee ensures.
 use Rattle.format.specs.SipHash.{last_word}
-use borrow.Author.Rules.{rules}
 use Rattle.hash.proofs.siphash.last_word.Goals as goal
 
 pub returns : goal.returns

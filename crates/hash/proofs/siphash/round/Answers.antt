@@ -1,7 +1,6 @@
 -- `hash::siphash::round` meets its contract. Each step is what its callee ensures.
 use Rattle.format.specs.SipHash.{sip_round}
 use mathlib.Core.Path.{refl}
-use borrow.Author.Rules.{rules}
 use Rattle.hash.proofs.siphash.round.Goals as goal
 
 pub returns : goal.returns

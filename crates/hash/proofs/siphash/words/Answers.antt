@@ -1,6 +1,4 @@
 -- `hash::siphash::words` meets its contract. Before word k the state is that after k words.
-use mathlib.Core.Path.{◌≡◌}
-use Prim.Native.Nat.{◌-◌, ◌≤◌}
 use native.Mathlib.Numerals.{add-one}
 use borrow.Author.Rules.{rules}
 use Rattle.format.specs.SipHash.{compressed}

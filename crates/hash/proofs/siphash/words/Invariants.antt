@@ -1,10 +1,7 @@
 -- `hash::siphash::words` meets its contract. Before word k the state is that after k words.
 use mathlib.Core.Path.{◌≡◌}
 use Prim.Native.Nat.{◌-◌, ◌≤◌}
-use native.Mathlib.Numerals.{add-one}
-use borrow.Author.Rules.{rules}
 use Rattle.format.specs.SipHash.{compressed}
-use Rattle.format.proofs.Counted.{counted}
 use Rattle.hash.proofs.siphash.words.Given as goal
 
 abbrev pub invariant-loop-k : goal.invariant-loop-k

@@ -1,5 +1,5 @@
 -- `number::number::rot32` meets its contract. The law of rotation, at 32 bits.
-use Rattle.std.proofs.Common.{arith, rules}
+use Rattle.std.proofs.Common.{arith}
 use Rattle.format.proofs.Rotations.{shifts_rotate}
 use Rattle.number.proofs.number.rot32.Goals as goal
 

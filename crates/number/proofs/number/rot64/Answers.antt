@@ -1,5 +1,5 @@
 -- `number::number::rot64` meets its contract. The law of rotation, at 64 bits.
-use Rattle.std.proofs.Common.{arith, rules}
+use Rattle.std.proofs.Common.{arith}
 use Rattle.format.proofs.Rotations.{shifts_rotate}
 use Rattle.number.proofs.number.rot64.Goals as goal
 

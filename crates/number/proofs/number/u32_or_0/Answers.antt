@@ -1,5 +1,5 @@
 -- `number::number::u32_or_0` meets its contract. Where three bytes or fewer are left, the fourth counts as 0; where none is left, all do.
-use Rattle.std.proofs.Common.{◌+◌, arith, rules}
+use Rattle.std.proofs.Common.{◌+◌, arith}
 use Rattle.format.proofs.Numbers.{number_at_add, number_at_past}
 use Rattle.number.proofs.number.u32_or_0.Goals as goal
 

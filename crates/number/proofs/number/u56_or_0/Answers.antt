@@ -1,5 +1,5 @@
 -- `number::number::u56_or_0` meets its contract. Seven bytes are four and then three; where fewer than four are left, the last four count as 0.
-use Rattle.std.proofs.Common.{◌+◌, arith, rules}
+use Rattle.std.proofs.Common.{◌+◌, arith}
 use Rattle.format.proofs.Numbers.{number_at_add, number_at_past}
 use Rattle.number.proofs.number.u56_or_0.Goals as goal
 

@@ -1,6 +1,6 @@
 -- `number::number::u64_at` meets its contract. Eight bytes are four and then four.
 use Rattle.format.proofs.Numbers.{number_at_add}
-use Rattle.std.proofs.Common.{arith, rules}
+use Rattle.std.proofs.Common.{arith}
 use Rattle.number.proofs.number.u64_at.Goals as goal
 
 pub returns : goal.returns
