@@ -8,9 +8,7 @@ use Rattle.format.specs.Header.{Image}
 use Rattle.reading.specs.Refusal.{refusal}
 use Rattle.benchmark.specs.Answer.{total, asked}
 use Rattle.benchmark.specs.declared.question.Question.{Question}
-use borrow.Author.Rules.{rules}
-use Rattle.benchmark.proofs.benchmark_lookups.Statement.{statement}
-use Rattle.benchmark.proofs.benchmark_lookups.Tie as tie
+use Rattle.benchmark.proofs.benchmark_lookups.Goals as goal
 
 module _ (img : Image) (q : Question) (bytes : List ℕ) (place : ℕ) (arguments : List ℕ) where
   is_refused : refusal img ≢ 0 → asked img q bytes place arguments ≡ refusal img
@@ -25,18 +23,15 @@ module _ (img : Image) (q : Question) (bytes : List ℕ) (place : ℕ) (argument
   unfolding asked
   is_total e = rw (asked, e)
 
-returns : tie.Need-returns
+pub returns-then-refused-ne0 : goal.returns-then-refused-ne0
+returns-then-refused-ne0 c =
+    let o = c.open-refused.ensures in
+    o ∙ sym (is_refused _ _ _ _ _ (λ e. c.if-refused-ne0.true (o ∙ e)))
+
+pub answers-requires : goal.answers-requires
+answers-requires c = record { opens = sym c.open-refused.ensures ∙ c.if-refused-ne0.false }
+
+pub returns : goal.returns
 returns c =
-    let o = c.before.«open».ensures in
-    o ∙ sym (is_refused _ _ _ _ _ (λ e. c.if1.true (o ∙ e)))
-
-answers-requires : tie.Need-answers-requires
-answers-requires c κs = record { opens = sym c.before.before.«open».ensures ∙ c.before.if1.false }
-
-returns-2 : tie.Need-returns-2
-returns-2 c =
-    rw (c.answers.ensures, c.before.asked_by.ensures)
-    (sym (is_total _ _ _ _ _ (sym c.before.before.before.«open».ensures ∙ c.before.before.if1.false)))
-
-pub benchmark_lookups_spec : {M : Type 1} → statement M
-benchmark_lookups_spec = tie.close (tie.spec (λ c κs. search rules) returns (λ c κs. search rules) answers-requires returns-2)
+    rw (c.answers.ensures, c.asked_by.ensures)
+    (sym (is_total _ _ _ _ _ (sym c.open-refused.ensures ∙ c.if-refused-ne0.false)))
