@@ -1,6 +1,7 @@
 #![tactic(auto)]
 // Prints both hashes of published inputs and of payloads as journals hold them; `stdout` has what is published.
-use libc::STDOUT_FILENO;
+use std::io;
+use std::io::Write;
 
 // The key of the SipHash paper's vectors: 00 to 0f.
 const KEY: [u8; 16] = [0, 1, 2, 3, 4, 5, 6, 7, 8, 9, 10, 11, 12, 13, 14, 15];
@@ -13,58 +14,58 @@ const BYTES: [u8; 63] = [
 ];
 
 // Ends a line with the hash.
-fn value(hash: u64) {
-    io::write_all(STDOUT_FILENO, b" = ");
-    io::print_hex(STDOUT_FILENO, hash, 16);
-    io::write_all(STDOUT_FILENO, b"\n");
+fn value<W: Write>(out: &mut W, hash: u64) -> io::Result<()> {
+    writeln!(out, " = {hash:016x}")
 }
 
 // Starts a line: the hash's name, and the text that is hashed in quotes.
-fn quoted(name: &[u8], text: &[u8]) {
-    io::write_all(STDOUT_FILENO, name);
-    io::write_all(STDOUT_FILENO, b" \"");
-    io::write_all(STDOUT_FILENO, text);
-    io::write_all(STDOUT_FILENO, b"\"");
+fn quoted<W: Write>(out: &mut W, name: &[u8], text: &[u8]) -> io::Result<()> {
+    out.write_all(name)?;
+    out.write_all(b" \"")?;
+    out.write_all(text)?;
+    out.write_all(b"\"")
 }
 
-fn lookup3(text: &[u8]) {
-    quoted(b"lookup3", text);
-    value(hash::lookup3::hash(text));
+fn lookup3<W: Write>(out: &mut W, text: &[u8]) -> io::Result<()> {
+    quoted(out, b"lookup3", text)?;
+    value(out, hash::lookup3::hash(text))
 }
 
-fn siphash24(text: &[u8]) {
-    quoted(b"siphash24", text);
-    value(hash::siphash::hash(&KEY, text));
+fn siphash24<W: Write>(out: &mut W, text: &[u8]) -> io::Result<()> {
+    quoted(out, b"siphash24", text)?;
+    value(out, hash::siphash::hash(&KEY, text))
 }
 
 // The reference vector of one length: the first bytes of 00, 01, 02, ..
-fn reference(bytes: &[u8], n: usize) {
+fn reference<W: Write>(out: &mut W, bytes: &[u8], n: usize) -> io::Result<()> {
     if n <= bytes.len() {
-        io::write_all(STDOUT_FILENO, b"siphash24 ");
-        io::print_decimal(STDOUT_FILENO, n as u64);
-        value(hash::siphash::hash(&KEY, &bytes[..n]));
+        write!(out, "siphash24 {n}")?;
+        value(out, hash::siphash::hash(&KEY, &bytes[..n]))?;
     }
+    Ok(())
 }
 
 // The 64 reference vectors, by length.
-fn references() {
+fn references<W: Write>(out: &mut W) -> io::Result<()> {
     for n in 0..64 {
-        reference(&BYTES, n);
+        reference(out, &BYTES, n)?;
     }
+    Ok(())
 }
 
-fn main() {
-    lookup3(b"");
-    lookup3(b"Four score and seven years ago");
-    lookup3(b"MESSAGE=lot 12 due");
-    lookup3(b"PRIORITY=2");
-    lookup3(b"_HOSTNAME=store-controller-7");
-    lookup3(b"GERMINATION=0");
-    lookup3(b"LOT=1123581321345589");
-    references();
-    siphash24(b"MESSAGE=lot 12 due");
-    siphash24(b"PRIORITY=2");
-    siphash24(b"_HOSTNAME=store-controller-7");
-    siphash24(b"GERMINATION=0");
-    siphash24(b"LOT=1123581321345589");
+fn main(rt: HostRuntime) -> io::Result<()> {
+    let mut out = io::writer(&rt);
+    lookup3(&mut out, b"")?;
+    lookup3(&mut out, b"Four score and seven years ago")?;
+    lookup3(&mut out, b"MESSAGE=lot 12 due")?;
+    lookup3(&mut out, b"PRIORITY=2")?;
+    lookup3(&mut out, b"_HOSTNAME=store-controller-7")?;
+    lookup3(&mut out, b"GERMINATION=0")?;
+    lookup3(&mut out, b"LOT=1123581321345589")?;
+    references(&mut out)?;
+    siphash24(&mut out, b"MESSAGE=lot 12 due")?;
+    siphash24(&mut out, b"PRIORITY=2")?;
+    siphash24(&mut out, b"_HOSTNAME=store-controller-7")?;
+    siphash24(&mut out, b"GERMINATION=0")?;
+    siphash24(&mut out, b"LOT=1123581321345589")
 }
