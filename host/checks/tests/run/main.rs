@@ -4,7 +4,7 @@ mod tree;
 
 use tree::{Tree, ARCHIVE, LINKED, OLD_PROGRAM, PROGRAM, PROVED};
 
-const BOTH: &str = "rt staticlib journal\ncargo build\n";
+const BOTH: &str = "rt lib\ncargo build\n";
 
 /// Once built, nothing is called, nothing is written, and nothing has to be there but the program.
 #[test]

@@ -16,7 +16,10 @@ pub const LINKED: [&str; 4] = [
 ];
 
 pub const OLD_PROGRAM: &str = "#!/bin/sh\necho \"old: $*\"\n";
-const RT: &str = "#!/bin/sh\necho rt \"$@\" >>called\necho new >target/staticlib/libjournal.a\n";
+/// Called in the crate's folder.
+const RT: &str = "#!/bin/sh\necho rt \"$@\" >>../../called\necho new >out/libjournal.a\n";
+/// What `rt` makes, which is copied to where the archive is linked from.
+const MADE: &str = "crates/journal/out/libjournal.a";
 /// Says something, and does as it is told: fails, leaves the program as it is, or has a source edited
 /// while it works.
 const CARGO: &str = r#"#!/bin/sh
@@ -32,8 +35,9 @@ echo "new: $*"' >host/target/release/journal
 chmod +x host/target/release/journal
 "#;
 /// What the script needs besides.
-const TOOLS: [&str; 10] = [
-    "bash", "cat", "chmod", "dirname", "find", "mktemp", "readlink", "rm", "sleep", "touch",
+const TOOLS: [&str; 12] = [
+    "bash", "cat", "chmod", "cp", "dirname", "find", "mkdir", "mktemp", "readlink", "rm", "sleep",
+    "touch",
 ];
 
 /// Where it is.
@@ -50,13 +54,14 @@ impl Tree {
         for path in PROVED
             .iter()
             .chain(&LINKED)
-            .chain(&[ARCHIVE, "host/checks/lib.rs"])
+            .chain(&[ARCHIVE, MADE, "host/checks/lib.rs"])
         {
             tree.write(path, "");
         }
         tree.write(PROGRAM, OLD_PROGRAM);
         let script = include_str!("../../../../run");
         tree.write("run", script);
+        tree.write("tools/archive", include_str!("../../../../tools/archive"));
         tree.write("bin/rt", RT);
         tree.write("bin/cargo", CARGO);
         for tool in TOOLS {
