@@ -84,7 +84,7 @@ fn expected() -> BTreeSet<String> {
     });
     let structs = STRUCTS
         .iter()
-        .flat_map(|text| text.split("#[repr(C)]\npub struct ").skip(1));
+        .flat_map(|text| text.split("#[repr(C)]\n#[derive(Clone, Copy)]\npub struct ").skip(1));
     let structs = structs.map(|text| {
         let (name, rest) = text.split_once(" {\n").expect("a name");
         let (fields, _) = rest.split_once("\n}").expect("an end");
