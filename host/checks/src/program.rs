@@ -3,9 +3,9 @@ use std::io::{ErrorKind, Read, Write};
 use std::path::PathBuf;
 use std::process::{Command, Stdio};
 
-/// Where `rt check list` writes it.
+/// Where `rt run` writes it.
 pub fn path() -> PathBuf {
-    PathBuf::from(env!("CARGO_MANIFEST_DIR")).join("../../target/bin/list")
+    PathBuf::from(env!("CARGO_MANIFEST_DIR")).join("../../crates/list/out/list")
 }
 
 /// What it prints, with this as its standard input.
@@ -14,7 +14,7 @@ pub fn list(input: &[u8]) -> String {
         .stdin(Stdio::piped())
         .stdout(Stdio::piped())
         .spawn()
-        .expect("target/bin/list runs: `rt check list` in the repository's root makes it");
+        .expect("crates/list/out/list runs: `rt run` in crates/list makes it");
     // It prints when it has read what it takes, and does not read all of a long input.
     let written = child.stdin.take().expect("a pipe").write_all(input);
     if let Err(error) = written {
