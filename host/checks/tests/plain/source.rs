@@ -87,6 +87,31 @@ fn reads_elsewhere(line: &str) -> bool {
         .any(|it| !it.starts_with("at]"))
 }
 
+/// The lines of a file, with one of its own for each name that a `use` takes.
+fn taken_apart(text: &str) -> Vec<String> {
+    let mut lines = Vec::new();
+    let mut rest = text.lines();
+    while let Some(line) = rest.next() {
+        let mut line = line.to_string();
+        while line.starts_with("use ") && !line.ends_with(';') {
+            line += rest.next().expect("the end of the item").trim();
+        }
+        let group = line.strip_suffix("};").and_then(|it| it.split_once("::{"));
+        match group {
+            Some((path, names)) if line.starts_with("use ") => {
+                let names = names.split(',').map(str::trim);
+                lines.extend(
+                    names
+                        .filter(|it| !it.is_empty())
+                        .map(|it| format!("{path}::{it};")),
+                );
+            }
+            _ => lines.push(line),
+        }
+    }
+    lines
+}
+
 /// The lines of all files.
 fn lines() -> Vec<String> {
     let folder = Path::new(env!("CARGO_MANIFEST_DIR")).join("../../crates/plain/src");
@@ -95,7 +120,7 @@ fn lines() -> Vec<String> {
         let path = file.expect("a file").path();
         assert!(path.extension().is_some_and(|it| it == "rt"), "{path:?}");
         let text = std::fs::read_to_string(path).expect("text");
-        lines.extend(text.lines().map(str::to_string));
+        lines.extend(taken_apart(&text));
     }
     lines
 }
