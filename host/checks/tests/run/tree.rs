@@ -16,10 +16,12 @@ pub const LINKED: [&str; 4] = [
 ];
 
 pub const OLD_PROGRAM: &str = "#!/bin/sh\necho \"old: $*\"\n";
-/// Called in the crate's folder.
-const RT: &str = "#!/bin/sh\necho rt \"$@\" >>../../called\necho new >out/libjournal.a\n";
-/// What `rt` makes, which is copied to where the archive is linked from.
-const MADE: &str = "crates/journal/out/libjournal.a";
+/// Called in the crate's folder; what it makes is copied to where the archive is linked from.
+const RT: &str = r#"#!/bin/sh
+echo rt "$@" >>../../called
+mkdir -p out
+echo new >out/libjournal.a
+"#;
 /// Says something, and does as it is told: fails, leaves the program as it is, or has a source edited
 /// while it works.
 const CARGO: &str = r#"#!/bin/sh
@@ -54,7 +56,7 @@ impl Tree {
         for path in PROVED
             .iter()
             .chain(&LINKED)
-            .chain(&[ARCHIVE, MADE, "host/checks/lib.rs"])
+            .chain(&[ARCHIVE, "host/checks/lib.rs"])
         {
             tree.write(path, "");
         }
