@@ -7,6 +7,7 @@ ghost use Rattle.std.specs.Prelude.{◌≡◌, ◌*◌, ◌≤◌, length};
 ghost use Rattle.format.specs.Refusal.{frame_refusal};
 ghost use Rattle.benchmark.specs.Answer.{framed_kind, question_of, asked};
 
+use format::refusal::number_or_0;
 use format::units::Offset;
 
 // The lowest of refusals 1 to 7 that applies to the image, or 0.
@@ -14,7 +15,7 @@ use format::units::Offset;
 pub extern "C" fn benchmark_framed(image: &[u8]) -> u64
     ensures { result ≡ frame_refusal image.now }
 {
-    object::refusal::frame_refusal(image)
+    number_or_0(object::refusal::check_frame(image))
 }
 
 // Refusals 1 to 7, and then the object map, in a map that is lent.
@@ -22,9 +23,8 @@ fn mapped(image: &[u8], at: u64, map: &mut [u8]) -> u64
     requires { 8388608 ≤ 8 * length map.old }
     ensures { result ≡ framed_kind image.now at }
 {
-    let framed = object::refusal::frame_refusal(image);
-    if framed != 0 {
-        return framed;
+    if let Err(refusal) = object::refusal::check_frame(image) {
+        return u64::from(refusal);
     }
     object::map::chart(image, map);
     8 + (object::map::slot_at(map, Offset(at)) % 16) as u64
@@ -51,9 +51,8 @@ pub extern "C" fn benchmark_lookups(
 ) -> u64
     ensures { result ≡ asked image.now (question_of kind) bytes.now place arguments.now }
 {
-    let refused = index::open::open(image);
-    if refused != 0 {
-        return refused;
+    if let Err(refusal) = index::open::open(image) {
+        return u64::from(refusal);
     }
     lookups::answers(image, question::asked_by(kind), bytes, place, arguments)
 }
