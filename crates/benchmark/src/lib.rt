@@ -7,8 +7,9 @@ ghost use Rattle.std.specs.Prelude.{◌≡◌, ◌*◌, ◌≤◌, length};
 ghost use Rattle.format.specs.Refusal.{frame_refusal};
 ghost use Rattle.benchmark.specs.Answer.{framed_kind, question_of, asked};
 
-use format::refusal::number_or_0;
+use number::refusal::number_or_0;
 use format::units::Offset;
+use number::refusal::refusal_number;
 
 // The lowest of refusals 1 to 7 that applies to the image, or 0.
 #[unsafe(no_mangle)]
@@ -24,7 +25,7 @@ fn mapped(image: &[u8], at: u64, map: &mut [u8]) -> u64
     ensures { result ≡ framed_kind image.now at }
 {
     if let Err(refusal) = object::refusal::check_frame(image) {
-        return u64::from(refusal);
+        return refusal_number(refusal);
     }
     object::map::chart(image, map);
     8 + (object::map::slot_at(map, Offset(at)) % 16) as u64
@@ -52,7 +53,7 @@ pub extern "C" fn benchmark_lookups(
     ensures { result ≡ asked image.now (question_of kind) bytes.now place arguments.now }
 {
     if let Err(refusal) = index::open::open(image) {
-        return u64::from(refusal);
+        return refusal_number(refusal);
     }
     lookups::answers(image, question::asked_by(kind), bytes, place, arguments)
 }

@@ -1,3 +1,4 @@
 #![tactic(auto)]
-// Little-endian numbers, rotations, and sums that wrap.
+// Little-endian numbers, rotations, sums that wrap, and the numbers of refusals.
 pub mod number;
+pub mod refusal;
