@@ -1,5 +1,5 @@
 -- Digits as the code reads them: what a byte counts as, whether some byte is no digit, and a time digit by digit.
-use mathlib.Core.Path.{◌≡◌, refl}
+use mathlib.Core.Path.{◌≡◌, refl, ap}
 use mathlib.Core.Bool.{Bool, true, false, ◌||◌}
 use mathlib.Core.List.{List, [], ◌∷◌}
 use Prim.Native.Nat.{ℕ, zero, suc, ◌+◌, ◌-◌, ◌*◌, ◌^◌, ◌≤◌, ◌<◌}
@@ -9,6 +9,7 @@ use lib.Dec.{ltb}
 use lib.ListN.{length, drop, get_or, drop_of_length-le}
 use lib.Seq.{drop-cons}
 use borrow.Author.Tests.{lt-ltb, le-ltb, le-leb, lt-leb, leb-false}
+use Rattle.std.specs.List.{list_any}
 use Rattle.format.specs.Tests.{any}
 use Rattle.format.proofs.Tests.{neither, or_right}
 use Rattle.exchange.specs.Digits.{digit_value, no_digit, read_digits}
@@ -46,27 +47,11 @@ module _ (b : ℕ) where
 abbrev pub has_odd : ℕ → List ℕ → Bool
 has_odd base digits = any (λ b. no_digit base b) digits
 
-module _ (base : ℕ) (digits : List ℕ) (i : ℕ) where
-  -- what is left has one where its first byte is one or its rest has one
-  pub odd_turn : i < length digits → has_odd base (drop i digits) ≡ (no_digit base (get_or digits i 0) || has_odd base (drop (i + 1) digits))
-  unfolding any
-  odd_turn l = rw (add-one, drop-cons digits i 0)
-
-  -- behind the last byte there is none
-  pub odd_end : length digits ≤ i → has_odd base (drop i digits) ≡ false
-  unfolding any
-  odd_end l = rw (drop_of_length-le digits l)
-
-module _ (base : ℕ) (b : ℕ) where
-  -- a byte that counts the base or more is no digit of it
-  pub odd_value : base ≤ digit_value b → no_digit base b ≡ true
-  unfolding no_digit
-  odd_value h = le-leb base (digit_value b) h
-
-  -- one that counts less is one
-  pub even_value : digit_value b < base → no_digit base b ≡ false
-  unfolding no_digit
-  even_value h = lt-leb base (digit_value b) h
+-- both say whether a member passes
+pub any_listed : (p : ℕ → Bool) (xs : List ℕ) → list_any p xs ≡ any p xs
+unfolding any
+any_listed p [] = refl
+any_listed p (x ∷ xs) = ap (λ (t : Bool). p x || t) (any_listed p xs)
 
 -- where no byte is odd each counts less than the base
 pub digit_small : (base : ℕ) (digits : List ℕ) (i : ℕ) → has_odd base digits ≡ false → i < length digits → digit_value (get_or digits i 0) < base

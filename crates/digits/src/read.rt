@@ -26,33 +26,18 @@ pub struct Time {
 fn digit_value(b: u8) -> u64
     ensures { (result ≡ digit_value b) × (result ≤ 16) }
 {
-    if b < b'0' {
-        return NO_DIGIT;
+    match b {
+        b'0'..=b'9' => (b - b'0') as u64,
+        b'a'..=b'f' => (b - 87) as u64,
+        _ => NO_DIGIT,
     }
-    if b <= b'9' {
-        return (b - b'0') as u64;
-    }
-    if b < b'a' {
-        return NO_DIGIT;
-    }
-    if b <= b'f' {
-        return (b - 87) as u64;
-    }
-    NO_DIGIT
 }
 
 // Is some byte no digit of a base?
 fn odd_digit(digits: &[u8], base: u64) -> bool
     ensures { result ≡ any (λ b. no_digit base b) digits.now }
 {
-    let mut i = 0;
-    while i < digits.len() {
-        if base <= digit_value(digits[i]) {
-            return true;
-        }
-        i += 1;
-    }
-    false
+    digits.iter().any(|b| base <= digit_value(*b))
 }
 
 // The number that decimal digits are, if it has no more than 64 bits.
@@ -61,9 +46,8 @@ fn read_number(digits: &[u8]) -> Time
     ensures { result ≡ time_read digits.now }
 {
     let mut value: u64 = 0;
-    let mut i = 0;
-    while i < digits.len() {
-        let d = digit_value(digits[i]);
+    for b in digits {
+        let d = digit_value(*b);
         if (LARGEST - d) / 10 < value {
             return Time {
                 wrong: true,
@@ -71,7 +55,6 @@ fn read_number(digits: &[u8]) -> Time
             };
         }
         value = value * 10 + d;
-        i += 1;
     }
     Time {
         wrong: false,
@@ -83,19 +66,7 @@ fn read_number(digits: &[u8]) -> Time
 pub fn read_time(digits: &[u8]) -> Time
     ensures { result ≡ time_read digits.now }
 {
-    if digits.len() < 1 {
-        return Time {
-            wrong: true,
-            value: 0,
-        };
-    }
-    if MOST_DIGITS < digits.len() {
-        return Time {
-            wrong: true,
-            value: 0,
-        };
-    }
-    if odd_digit(digits, 10) {
+    if digits.is_empty() || MOST_DIGITS < digits.len() || odd_digit(digits, 10) {
         return Time {
             wrong: true,
             value: 0,
@@ -108,10 +79,7 @@ pub fn read_time(digits: &[u8]) -> Time
 pub fn boot_fault(digits: &[u8]) -> bool
     ensures { result ≡ boot_fault digits.now }
 {
-    if digits.len() != BOOT_DIGITS {
-        return true;
-    }
-    odd_digit(digits, 16)
+    digits.len() != BOOT_DIGITS || odd_digit(digits, 16)
 }
 
 // The byte that two hexadecimal digits are, by its place.
@@ -128,9 +96,7 @@ pub fn hex_word(digits: &[u8], at: usize) -> u64
     ensures { result ≡ number_at 8 (hex_bytes digits.now) at }
 {
     let mut word: u64 = 0;
-    let mut i = 8;
-    while 0 < i {
-        i -= 1;
+    for i in (0..8).rev() {
         word = word * 256 + hex_byte(digits, at + i);
     }
     word

@@ -34,10 +34,8 @@ pub fn put_digits(text: &mut [u8], at: usize, base: u64, k: usize, n: u64)
     requires { (at + k ≤ length text.old) × (1 < base) × (base ≤ 16) }
     ensures { text.new ≡ laid at (digits_of base k n) text.old }
 {
-    let mut i = k;
     let mut left = n;
-    while 0 < i {
-        i -= 1;
+    for i in (0..k).rev() {
         text[at + i] = digit(left % base);
         left = left / base;
     }
@@ -48,11 +46,9 @@ pub fn put_hex(text: &mut [u8], at: usize, word: u64)
     requires { at + 16 ≤ length text.old }
     ensures { text.new ≡ laid at (hex_of (bytes_of 8 word)) text.old }
 {
-    let mut i = 0;
     let mut left = word;
-    while i < 8 {
+    for i in 0..8 {
         put_digits(text, at + 2 * i, 16, 2, left % 256);
         left = left / 256;
-        i += 1;
     }
 }

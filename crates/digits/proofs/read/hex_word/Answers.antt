@@ -9,7 +9,7 @@ use Rattle.digits.proofs.read.hex_word.Goals as goal
 pub loop-i-init : goal.loop-i-init
 loop-i-init c =
     let a = c.args in
-    (omega arith, word_start (hex_bytes a.digits.now) (a.at + 8))
+    word_start (hex_bytes a.digits.now) (a.at + 8)
 
 pub overflow_mul-word : goal.overflow_mul-word
 overflow_mul-word c =
@@ -27,10 +27,10 @@ pub loop-i-preserved : goal.loop-i-preserved
 loop-i-preserved c =
     let l = c.loop-i in
     let a = c.args in
-    (omega arith, rw (l.invariant.1, c.hex_byte.ensures.0) (word_turn (hex_bytes a.digits.now) a.at l.i (omega arith) (omega arith)))
+    rw (l.invariant, c.hex_byte.ensures.0) (word_turn (hex_bytes a.digits.now) a.at l.i (omega arith) (omega arith))
 
 pub returns : goal.returns
 returns c =
     let l = c.loop-i in
     let a = c.args in
-    l.invariant.1 ∙ word_end (hex_bytes a.digits.now) a.at l.i (omega arith)
+    l.invariant ∙ word_end (hex_bytes a.digits.now) a.at l.i (omega arith)

@@ -1,5 +1,4 @@
 -- `digits::write::put_digits` meets its contract. The digits written and those still to write are together as before.
-use Prim.Native.Nat.{◌≤◌}
 use mathlib.Core.Path.{◌≡◌}
 use lib.ListN.{length}
 use Rattle.exchange.specs.Digits.{digits_of}
@@ -7,7 +6,4 @@ use Rattle.exchange.specs.Export.{laid}
 use Rattle.digits.proofs.write.put_digits.Given as goal
 
 abbrev pub invariant-loop-i : goal.invariant-loop-i
-invariant-loop-i l = (l.i ≤ l.k) × (length l.text ≡ length l.initial.text) × (laid l.at (digits_of l.base l.i l.left) l.text ≡ laid l.at (digits_of l.base l.k l.n) l.initial.text)
-
-abbrev pub decreases-loop-i : goal.decreases-loop-i
-decreases-loop-i l = l.i
+invariant-loop-i l = (length l.text ≡ length l.initial.text) × (laid l.at (digits_of l.base l.i l.left) l.text ≡ laid l.at (digits_of l.base l.k l.n) l.initial.text)
