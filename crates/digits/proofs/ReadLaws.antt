@@ -47,12 +47,6 @@ module _ (b : ℕ) where
 abbrev pub has_odd : ℕ → List ℕ → Bool
 has_odd base digits = any (λ b. no_digit base b) digits
 
--- both say whether a member passes
-pub any_listed : (p : ℕ → Bool) (xs : List ℕ) → list_any p xs ≡ any p xs
-unfolding any
-any_listed p [] = refl
-any_listed p (x ∷ xs) = ap (λ (t : Bool). p x || t) (any_listed p xs)
-
 -- where no byte is odd each counts less than the base
 pub digit_small : (base : ℕ) (digits : List ℕ) (i : ℕ) → has_odd base digits ≡ false → i < length digits → digit_value (get_or digits i 0) < base
 unfolding any no_digit

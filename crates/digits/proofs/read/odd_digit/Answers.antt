@@ -5,7 +5,7 @@ use borrow.Author.Tests.{tests}
 use Rattle.std.proofs.lemmas.Iterator.{YieldsList-from_slice}
 use Rattle.std.proofs.lemmas.Iterator.Search.{any_from_yields_List}
 use Rattle.exchange.specs.Digits.{no_digit}
-use Rattle.digits.proofs.ReadLaws.{any_listed}
+use Rattle.format.proofs.Tests.{any_listed}
 use Rattle.digits.proofs.read.odd_digit.Goals as goal
 
 pub returns : goal.returns
