@@ -128,13 +128,12 @@ fn blocks(bytes: &[u8]) -> Mixed
     requires { 0 < length bytes.now }
     ensures { (result.s ≡ mixed bytes.now (last_block bytes.now)) × (result.at ≡ last_block bytes.now * 12) }
 {
+    let n = (bytes.len() - 1) / 12;
     let mut s = started(bytes.len());
-    let mut at = 0;
-    while 12 < bytes.len() - at {
-        s = mix(block(s, bytes, at));
-        at += 12;
+    for k in 0..n {
+        s = mix(block(s, bytes, k * 12));
     }
-    Mixed { s, at }
+    Mixed { s, at: n * 12 }
 }
 
 // hashlittle2 of the bytes, both starting values 0, its first word high.
