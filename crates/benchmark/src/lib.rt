@@ -7,9 +7,8 @@ ghost use Rattle.std.specs.Prelude.{◌≡◌, ◌*◌, ◌≤◌, length};
 ghost use Rattle.format.specs.Refusal.{frame_refusal};
 ghost use Rattle.benchmark.specs.Answer.{framed_kind, question_of, asked};
 
-use number::refusal::number_or_0;
 use format::units::Offset;
-use number::refusal::refusal_number;
+use number::refusal::{number_or_0, refusal_number};
 
 // The lowest of refusals 1 to 7 that applies to the image, or 0.
 #[unsafe(no_mangle)]
