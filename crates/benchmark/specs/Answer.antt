@@ -1,5 +1,5 @@
 -- What the measured functions answer, so that none of their work can be left out.
-use Rattle.std.specs.Prelude.{true, false, List, ℕ, zero, suc, ◌+◌, ◌*◌, ◌/◌, length, eqb}
+use Rattle.std.specs.Prelude.{true, false, List, ℕ, zero, suc, ◌+◌, ◌*◌, ◌/◌, length, eqb, Ok}
 use Rattle.format.specs.Number.{number_at, plus}
 use Rattle.format.specs.Header.{Image}
 use Rattle.format.specs.Refusal.{frame_refusal}
@@ -39,7 +39,7 @@ answer_of img Realtime bytes place argument = answer_number (found (realtime_fro
 answer_of img Payload bytes place argument = answer_number (found (payload_in bytes argument) (view (model img)))
 answer_of img Item bytes place argument = length (shown_bytes (found (item argument place) (view (model img))))
 answer_of img Value bytes place argument = length (shown_bytes (found (value_of bytes argument) (view (model img))))
-answer_of img Stamps bytes place argument = (stamp_numbers (stamps_at argument (view (model img)).entries)).seqnum
+answer_of img Stamps bytes place argument = (stamp_numbers (Ok (stamps_at argument (view (model img)).entries))).seqnum
 
 -- those of the first n arguments, added up modulo 2^64
 unfoldable pub total : Image → Question → List ℕ → ℕ → List ℕ → ℕ → ℕ

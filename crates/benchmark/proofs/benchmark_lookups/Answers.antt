@@ -5,6 +5,8 @@ use mathlib.Core.List.{List}
 use Prim.Native.Nat.{ℕ, zero, suc, ◌/◌}
 use lib.ListN.{length}
 use Rattle.format.specs.Header.{Image}
+use Rattle.format.specs.Refused.{refusal_number}
+use Rattle.format.proofs.Refused.{refusal_not0}
 use Rattle.reading.specs.Refusal.{refusal}
 use Rattle.benchmark.specs.Answer.{total, asked}
 use Rattle.benchmark.specs.declared.question.Question.{Question}
@@ -23,15 +25,14 @@ module _ (img : Image) (q : Question) (bytes : List ℕ) (place : ℕ) (argument
   unfolding asked
   is_total e = rw (asked, e)
 
-pub returns-then-refused-ne0 : goal.returns-then-refused-ne0
-returns-then-refused-ne0 c =
-    let o = c.open-refused.ensures in
-    o ∙ sym (is_refused _ _ _ _ _ (λ e. c.if-refused-ne0.true (o ∙ e)))
+pub returns-in-Err : goal.returns-in-Err
+returns-in-Err c =
+    let r = c.in-Err.refusal in
+    let e : refusal_number r ≡ refusal c.args.image.now = c.in-Err.ensures in
+    c.refusal_number.ensures ∙ e ∙ sym (is_refused _ _ _ _ _ (λ z. refusal_not0 r (e ∙ z)))
 
 pub answers-requires : goal.answers-requires
-answers-requires c = record { opens = sym c.open-refused.ensures ∙ c.if-refused-ne0.false }
+answers-requires c = record { opens = sym c.in_default.ensures }
 
 pub returns : goal.returns
-returns c =
-    rw (c.answers.ensures, c.asked_by.ensures)
-    (sym (is_total _ _ _ _ _ (sym c.open-refused.ensures ∙ c.if-refused-ne0.false)))
+returns c = rw (c.answers.ensures, c.asked_by.ensures) (sym (is_total _ _ _ _ _ (sym c.in_default.ensures)))
