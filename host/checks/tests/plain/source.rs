@@ -34,6 +34,7 @@ const TAKEN: [&str; 23] = [
     "entry_lookup::items::payload_part",
     "format::layout::DATA_OBJECT",
     "format::layout::ENTRY_OBJECT",
+    "format::refusal::Refusal",
     "format::units::Offset",
     "format::units::Realtime",
     "format::units::Seqnum",
@@ -52,7 +53,6 @@ const TAKEN: [&str; 23] = [
     "object_parts::stamps::seqnum_at",
     "object_parts::stamps::seqnum_below",
     "readiness::agreed::agreed",
-    "reading::answer::Found",
     "reading::answer::Part",
 ];
 
@@ -74,7 +74,7 @@ fn fault(line: &str) -> Option<String> {
     let paths = code
         .split(|it: char| !is_word(it))
         .filter(|it| it.contains("::"));
-    let own = |path: &str| ["crate::", "Found::"].iter().any(|it| path.starts_with(it));
+    let own = |path: &str| path.starts_with("crate::");
     let mut others = paths.filter(|path| !own(path) && !TAKEN.contains(path));
     others.next().map(|path| format!("{path} in: {code}"))
 }
