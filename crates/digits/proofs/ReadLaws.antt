@@ -1,6 +1,6 @@
 -- Digits as the code reads them: what a byte counts as, whether some byte is no digit, and a time digit by digit.
-use mathlib.Core.Path.{◌≡◌, refl, ap}
-use mathlib.Core.Bool.{Bool, true, false, ◌||◌}
+use mathlib.Core.Path.{◌≡◌, refl}
+use mathlib.Core.Bool.{Bool, true, false}
 use mathlib.Core.List.{List, [], ◌∷◌}
 use Prim.Native.Nat.{ℕ, zero, suc, ◌+◌, ◌-◌, ◌*◌, ◌^◌, ◌≤◌, ◌<◌}
 use native.Mathlib.Numerals.{add-one}
@@ -9,13 +9,12 @@ use lib.Dec.{ltb}
 use lib.ListN.{length, drop, get_or, drop_of_length-le}
 use lib.Seq.{drop-cons}
 use borrow.Author.Tests.{lt-ltb, le-ltb, le-leb, lt-leb, leb-false}
-use Rattle.std.specs.List.{list_any}
+use Rattle.std.proofs.Common.{Some, None}
 use Rattle.format.specs.Tests.{any}
 use Rattle.format.proofs.Tests.{neither, or_right}
 use Rattle.exchange.specs.Digits.{digit_value, no_digit, read_digits}
 use Rattle.exchange.specs.Import.{time_fault}
 use Rattle.digits.specs.Times.{time_read}
-use Rattle.digits.specs.declared.read.Time.{Time}
 
 module _ (b : ℕ) where
   -- a byte below the digits is none
@@ -72,32 +71,28 @@ unfolding read_digits
 read_grows before [] = omega arith
 read_grows before (b ∷ digits) = omega (arith, read_grows (before * 10 + digit_value b) digits)
 
--- the time that is none
-abbrev pub no_time : Time
-no_time = record { wrong = true; value = 0 }
-
 module _ (v : List ℕ) where
-  wrong_time : time_fault v ≡ true → time_read v ≡ no_time
+  wrong_time : time_fault v ≡ true → time_read v ≡ None
   unfolding time_read
   wrong_time e = rw e
 
   -- no digit
-  pub time_empty : length v < 1 → time_read v ≡ no_time
+  pub time_empty : length v < 1 → time_read v ≡ None
   unfolding time_fault
   time_empty h = wrong_time (rw (lt-ltb (length v) 1 h))
 
   -- too many digits
-  pub time_long_lem : 20 < length v → time_read v ≡ no_time
+  pub time_long_lem : 20 < length v → time_read v ≡ None
   unfolding time_fault
   time_long_lem h = wrong_time (rw (lt-ltb 20 (length v) h) (or_right (ltb (length v) 1) refl))
 
   -- some byte is no digit
-  pub time_odd : has_odd 10 v ≡ true → time_read v ≡ no_time
+  pub time_odd : has_odd 10 v ≡ true → time_read v ≡ None
   unfolding time_fault
   time_odd h = wrong_time (rw h (or_right (ltb (length v) 1) (or_right (ltb 20 (length v)) refl)))
 
   -- more than 64 bits
-  pub time_large : 2 ^ 64 ≤ read_digits 10 0 v → time_read v ≡ no_time
+  pub time_large : 2 ^ 64 ≤ read_digits 10 0 v → time_read v ≡ None
   unfolding time_fault
   time_large h =
       wrong_time
@@ -106,7 +101,7 @@ module _ (v : List ℕ) where
 
   -- any other is the number that the digits are
   pub time_right : 0 < length v → length v ≤ 20 → has_odd 10 v ≡ false → read_digits 10 0 v < 2 ^ 64
-      → time_read v ≡ record { wrong = false; value = read_digits 10 0 v }
+      → time_read v ≡ Some (read_digits 10 0 v)
   unfolding time_read time_fault
   time_right l h e s =
       rw (le-ltb (length v) 1 (omega arith), le-ltb 20 (length v) h, e, lt-leb (2 ^ 64) (read_digits 10 0 v) s)

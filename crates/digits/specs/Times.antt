@@ -1,8 +1,7 @@
--- A time as the code reads it: whether it is wrong, and 0 then, or the number that its digits are.
-use Rattle.std.specs.Prelude.{cond, List, ℕ}
+-- A time as the code reads it: the number that its digits are, where it is not at fault.
+use Rattle.std.specs.Prelude.{cond, List, ℕ, Option, Some, None}
 use Rattle.exchange.specs.Digits.{read_digits}
 use Rattle.exchange.specs.Import.{time_fault}
-use Rattle.digits.specs.declared.read.Time.{Time}
 
-unfoldable pub time_read : List ℕ → Time
-time_read v = record { wrong = time_fault v; value = cond (time_fault v) 0 (read_digits 10 0 v) }
+unfoldable pub time_read : List ℕ → Option ℕ
+time_read v = cond (time_fault v) None (Some (read_digits 10 0 v))

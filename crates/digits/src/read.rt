@@ -15,13 +15,6 @@ const BOOT_DIGITS: usize = 32;
 // The largest number of 64 bits.
 const LARGEST: u64 = 0xffff_ffff_ffff_ffff;
 
-// A time: whether it is wrong, and 0 then; or the number that its digits are.
-#[derive(Clone, Copy)]
-pub struct Time {
-    pub wrong: bool,
-    pub value: u64,
-}
-
 // What a byte counts as a digit.
 fn digit_value(b: u8) -> u64
     ensures { (result ≡ digit_value b) × (result ≤ 16) }
@@ -41,7 +34,7 @@ fn odd_digit(digits: &[u8], base: u64) -> bool
 }
 
 // The number that decimal digits are, if it has no more than 64 bits.
-fn read_number(digits: &[u8]) -> Time
+fn read_number(digits: &[u8]) -> Option<u64>
     requires { (0 < length digits.now) × (length digits.now ≤ 20) × (any (λ b. no_digit 10 b) digits.now ≡ false) }
     ensures { result ≡ time_read digits.now }
 {
@@ -49,28 +42,19 @@ fn read_number(digits: &[u8]) -> Time
     for b in digits {
         let d = digit_value(*b);
         if (LARGEST - d) / 10 < value {
-            return Time {
-                wrong: true,
-                value: 0,
-            };
+            return None;
         }
         value = value * 10 + d;
     }
-    Time {
-        wrong: false,
-        value: value,
-    }
+    Some(value)
 }
 
 // A time: 1 to 20 digits within 64 bits.
-pub fn read_time(digits: &[u8]) -> Time
+pub fn read_time(digits: &[u8]) -> Option<u64>
     ensures { result ≡ time_read digits.now }
 {
     if digits.is_empty() || MOST_DIGITS < digits.len() || odd_digit(digits, 10) {
-        return Time {
-            wrong: true,
-            value: 0,
-        };
+        return None;
     }
     read_number(digits)
 }
